@@ -104,7 +104,7 @@ def _() -> Patches:
 
 @defect("connect", "a backlog is one too small")
 def _() -> Patches:
-    return [instead(sockets, "backlog_of", lambda real: lambda kernel, wanted: real(kernel, wanted) - 1)]
+    return [instead(sockets, "backlog_here", lambda real: lambda wanted: real(wanted) - 1)]
 
 
 @defect("send", "a queue is full at three messages, and has no OUT")

@@ -53,7 +53,7 @@ def compiled(programs: Programs, name: str, sources: list[Path]) -> bytes:
 
 
 def read_output(text: str, scripts: list[Path]) -> Emulated:
-    """What the machine told on its second serial line."""
+    """What a machine told of its runs, an emulated one on its second serial line."""
     found, name, lines = Emulated(), "", []
     for line in text.splitlines():
         word, _, rest = line.partition(" ")
@@ -72,7 +72,7 @@ def read_output(text: str, scripts: list[Path]) -> Emulated:
         else:
             lines.append(line)
     if "@off" not in text.splitlines():
-        raise Trouble(f"the emulated machine broke off behind {len(found.traces)} scripts")
+        raise Trouble(f"the machine broke off behind {len(found.traces)} scripts")
     return found
 
 

@@ -51,6 +51,14 @@ class Outcome:
     lines: list[Line] = field(default_factory=list)
 
 
+def lines_of(output: str) -> list[str]:
+    """The lines of a trace. Each ends with a line feed, and what else is in it is compared."""
+    lines = output.split("\n")
+    if lines.pop():
+        raise ValueError("the last line of a trace has no end")
+    return lines
+
+
 @dataclass
 class Bench:
     """What a comparison needs: the programs and the machine's figures."""
@@ -70,9 +78,9 @@ class Bench:
     def trace(self, words: list[str]) -> list[str]:
         """A program's lines, or what it complains of."""
         status, output, errors = self.programs.run(words)
-        if status != 0:
+        if status != 0 or errors:
             raise ValueError(errors.strip() or f"{Path(words[0]).name} ended with {status}")
-        return output.splitlines()
+        return lines_of(output)
 
 
 def reference_lines(script: Script, rules: frozenset[Rule], machine: Machine) -> tuple[list[Line], set[Rule]]:

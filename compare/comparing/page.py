@@ -7,7 +7,7 @@ from pathlib import Path
 from textwrap import TextWrapper
 
 from reference.machine import Machine
-from reference.rules import ALL_RULES, Rule
+from reference.rules import ALL_RULES, ORDINARY_USERS, Rule
 from reference.script import read_script
 
 from .generator import write_scripts
@@ -27,12 +27,13 @@ follow all of them, but where it says so, as `compare/kernel` found ([kernels.tx
 `compare/table {count} {seed}` prints this page; [LINUX.md](../docs/LINUX.md) says how to compare."""
 
 
-def count_needs(scripts: list[Path], machine: Machine) -> Counter[Rule]:
-    """How many scripts need each rule, by the reference alone."""
+def count_needs(scripts: list[Path]) -> Counter[Rule]:
+    """How many scripts need each rule, by the reference alone; of an ordinary user those that it alone needs."""
     found: Counter[Rule] = Counter()
-    for path in scripts:
-        script = read_script(path)
+    for script in map(read_script, scripts):
+        machine, ordinary = Machine(), Machine(own_users=0)
         found.update(rules_needed(script, machine, reference_lines(script, ALL_RULES, machine)[1]))
+        found.update(rules_needed(script, ordinary, set(ORDINARY_USERS)))
     return found
 
 
@@ -45,6 +46,7 @@ def section(text: RuleText, needs: list[int], without: list[str]) -> str:
     """A rule under its heading."""
     told = text.texts
     counts = "needed by {} of examples, {} further, {} random".format(*needs)
+    counts = f"of an ordinary user: {counts}" if text.rule in ORDINARY_USERS else counts
     elsewhere = "".join(f"; not on {release}" for release in without)
     says = ("Linux", "answers"), ("POSIX, manual pages", "posix"), ("Why", "why")
     rows = [fill(f"- {who}: {told[key]}", WIDTH, subsequent_indent="  ") for who, key in says]
@@ -56,7 +58,7 @@ def print_page(count: int, seed: int) -> int:
     with tempfile.TemporaryDirectory(prefix="scripts.") as place:
         kinds = (list((TOP / "examples").glob("*.ux")), list((COMPARE / "further").glob("*.ux")),
                  write_scripts(count, seed, Path(place)))
-        needs = [count_needs(scripts, Machine()) for scripts in kinds]
+        needs = [count_needs(scripts) for scripts in kinds]
     kernels = read_kernels()
     print(HEAD.format(count=count, seed=seed, kernels=" and ".join(kernel.release for kernel in kernels)))
     call = ""

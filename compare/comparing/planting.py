@@ -11,16 +11,17 @@ from reference.rules import ALL_RULES, NO_RULES
 from reference.script import Script, read_script
 from reference.trace import Line
 
-from . import making_defects, socket_defects, user_defects  # add their defects to the list
+from . import further_defects, half_defects, long_defects, making_defects, socket_defects, user_defects  # add their defects
 from .defects import ALL, Defect
 from .generator import write_scripts
 from .lines import first_difference, reference_lines
+from .output_planting import Output, count_wrong_outputs, outputs_of, wrong_answer_of
 from .programs import COMPARE, TOP, Stopped, Trouble, complain
 from .session import Session
 
 RANDOM_SCRIPTS, SEED = 300, 54
 ERRORS = ("EAGAIN", "EBADF", "EINVAL", "ENOTCONN", "EPIPE", "ECONNRESET", "ECONNREFUSED", "EMFILE")
-assert making_defects and socket_defects and user_defects
+assert further_defects and half_defects and long_defects and making_defects and socket_defects and user_defects
 
 
 class Traces:
@@ -92,11 +93,21 @@ def count_wrong_answers(all_traces: list[Traces]) -> tuple[Counter[str], Counter
             for at, line in enumerate(lines):
                 for wrong in wrong_answers(line):
                     planted[expected[at].word] += 1
-                    changed = [*lines[:at], wrong, *lines[at + 1:]]
-                    passed[expected[at].word] += first_difference(whose, changed, expected, traces.rows) is None
+                    passed[expected[at].word] += first_difference(whose, [wrong], expected[at:at + 1], traces.rows) is None
                 passed["a line too few"] += first_difference(whose, lines[:at], expected, traces.rows) is None
                 planted["a line too few"] += 1
     return planted, passed
+
+
+def wrong_outputs(all_traces: list[Traces]) -> list[Output]:
+    """Outputs of uxrun that are wrong in form, for the first script, and for each kind of call one with another answer."""
+    made, known = outputs_of(all_traces[0].path, "".join(f"{line}\n" for line in all_traces[0].here).encode("latin-1")), set()
+    for traces in all_traces:
+        for at, line in enumerate(traces.plain):
+            if line.word not in known:
+                known.add(line.word)
+                made.append(wrong_answer_of(traces.path, traces.here, at, list(wrong_answers(traces.here[at]))))
+    return made
 
 
 def all_scripts(folder: Path) -> list[Path]:
@@ -127,6 +138,7 @@ def plant_all() -> int:
             all_traces = make_traces(session, all_scripts(Path(place)))
             is_good = tell_defects(all_traces, session.bench.machine)
             planted, passed = count_wrong_answers(all_traces)
+            is_good &= count_wrong_outputs(session.bench, wrong_outputs(all_traces)) == 0
     except Trouble as trouble:
         complain(str(trouble))
         return 2

@@ -14,7 +14,7 @@ from typing import Callable
 
 COMPARE = Path(__file__).resolve().parent.parent
 TOP = COMPARE.parent
-PATIENCE = 120
+PATIENCE = int(os.environ.get("PATIENCE", "120"))
 PATIENCE_AT_THE_END = 5
 TURNS_AT_THE_END = 10
 ENDING = (signal.SIGINT, signal.SIGTERM, signal.SIGHUP)
@@ -51,26 +51,25 @@ class Programs:
         signal.pthread_sigmask(signal.SIG_UNBLOCK, ENDING)
 
     def run(self, words: list[str], patience: int = PATIENCE) -> tuple[int, str, str]:
-        """Runs a program to its end, and answers its status, output and errors."""
+        """Runs a program to its end, and answers its status, output and errors, a character for each byte."""
         with self.lock:
             if self.is_stopped:
                 raise Stopped
             program = subprocess.Popen(words, stdin=subprocess.DEVNULL, stdout=subprocess.PIPE, stderr=subprocess.PIPE,
-                                       env={**os.environ, "TMPDIR": str(self.folder), "LC_ALL": "C"}, text=True,
-                                       encoding="latin-1", start_new_session=True)
+                                       env={**os.environ, "TMPDIR": str(self.folder), "LC_ALL": "C"}, start_new_session=True)
             self.running.add(program)
         try:
             output, errors = program.communicate(timeout=patience)
         except subprocess.TimeoutExpired:
             program.terminate()
             output, errors = program.communicate()
-            errors += f"ended after {patience} seconds"
+            errors += f"ended after {patience} seconds".encode()
         finally:
             with self.lock:
                 self.running.discard(program)
         if self.is_stopped:
             raise Stopped
-        return program.returncode, output, errors
+        return program.returncode, output.decode("latin-1"), errors.decode("latin-1")
 
     def build_replay(self) -> Path:
         """Compiles the replay, or takes the one that the variable REPLAY names."""

@@ -12,7 +12,7 @@ from reference.script import CallLine, Script, parse
 from reference.trace import Run
 
 from .linearization import Event, Search, make_waiting, may_wait
-from .lines import Bench, compare_script
+from .lines import Bench, compare_script, lines_of
 from .programs import Stopped, Trouble, complain
 from .session import Session
 from .users import user_words
@@ -62,7 +62,7 @@ def check_here(bench: Bench, path: Path, script: Script, outcome: ThreadsOutcome
         outcome.faults.append(f"uxrun --threads: {errors.strip()}")
         return
     run, calls = Run(script, NO_RULES, bench.machine), calls_of(script)
-    for line in output.splitlines():
+    for line in lines_of(output):
         words = line.split(" ")
         if words[3] == "off":
             run.end_layer()
@@ -101,7 +101,7 @@ def check_there(bench: Bench, path: Path, user: int, script: Script, outcome: Th
     if status != 0:
         outcome.faults.append(f"linux_replay --threads: {errors.strip()}")
         return None
-    lines = output.splitlines()
+    lines = lines_of(output)
     text = lines.pop() if lines and lines[-1].startswith("deadlock") else ""
     outcome.deadlocks += bool(text)
     search = Search(script, events_in(script, lines), stuck_calls(script, text), bench.machine)

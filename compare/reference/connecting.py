@@ -4,7 +4,7 @@ from __future__ import annotations
 from .kernel import Kernel
 from .names import UNNAMED, Address, address_in
 from .rules import Rule
-from .sockets import takes_address
+from .sockets import is_backlog_full, takes_address
 from .state import Description, Process, Refusal, Socket
 
 LONGEST_COPIED = 125  # of a name whose address has 128 bytes, which is what move_addr_to_kernel copies
@@ -18,22 +18,24 @@ def check_own_state(socket: Socket) -> None:
         raise Refusal("EISCONN")
 
 
+def find_listener(kernel: Kernel, socket: Socket, address: Address) -> Socket:
+    """The listener that an address leads to, or why no connection can wait there."""
+    listener = kernel.look_up(socket.kind, address)
+    if not listener.listens or "r" in listener.shut:
+        raise Refusal("ECONNREFUSED")
+    if is_backlog_full(kernel, listener):
+        raise Refusal("EAGAIN")
+    return listener
+
+
 def connect_stream(kernel: Kernel, process: Process, socket: Socket, address: Address) -> None:
     """Connects to the listener that the address leads to."""
     if address == UNNAMED or not takes_address(kernel, address):
         raise Refusal("EINVAL")
-    late = kernel.follows(Rule.ORDER_OF_CONNECT)
-    if not late:
-        check_own_state(socket)
     kernel.name_if_asked(socket)
-    listener = kernel.look_up(socket.kind, address)
-    if not listener.listens or "r" in listener.shut:
-        raise Refusal("ECONNREFUSED")
-    if len(listener.pending) >= listener.backlog:
-        raise Refusal("EAGAIN")
-    if late:
+    with kernel.seen_later(Rule.ORDER_OF_CONNECT, lambda: find_listener(kernel, socket, address)):
         check_own_state(socket)
-    make_connection(kernel, process, socket, listener)
+    make_connection(kernel, process, socket, find_listener(kernel, socket, address))
 
 
 def make_connection(kernel: Kernel, process: Process, client: Socket, listener: Socket) -> None:
@@ -75,13 +77,18 @@ def leave_target(kernel: Kernel, socket: Socket, former: Socket) -> None:
         former.is_reset = True
 
 
+def check_copied(address: Address) -> None:
+    """Linux copies an address before it looks at what the descriptor is."""
+    if len(address.name) > LONGEST_COPIED:
+        raise Refusal("EINVAL")
+
+
 def call_connect(kernel: Kernel, process: Process, words: list[str]) -> str:
     """connect(2)."""
     address = address_in(words[2])
     kernel.descriptor(process, int(words[1]))
-    if len(address.name) > LONGEST_COPIED and kernel.follows(Rule.LONG_PATH):
-        raise Refusal("EINVAL")
-    socket = kernel.socket(process, int(words[1]))
+    with kernel.seen_later(Rule.LONG_PATH, lambda: check_copied(address)):
+        socket = kernel.socket(process, int(words[1]))
     if socket.is_datagram:
         connect_datagram(kernel, socket, address)
     else:

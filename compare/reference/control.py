@@ -77,6 +77,21 @@ def linux_item(kind: int, data: bytes) -> Item:
     return Item(error="EINVAL")
 
 
+def is_read_alike(buffer: bytes) -> bool:
+    """Whether Linux finds what cmsg(3) describes: items that it knows, of each type one, and nothing but padding behind them."""
+    kinds, at = [], 0
+    while at < len(buffer):
+        if at + HEAD > len(buffer):
+            return False
+        length, level, kind = struct.unpack("<QII", buffer[at:at + HEAD])
+        is_known = (kind == SCM_RIGHTS and length % 4 == 0) or (kind == SCM_CREDENTIALS and length == CREDENTIALS_LENGTH)
+        if level != SOL_SOCKET or not is_known or kind in kinds or not HEAD <= length <= len(buffer) - at:
+            return False
+        kinds.append(kind)
+        at += aligned(length)
+    return True
+
+
 def items_by_linux(buffer: bytes) -> list[Item]:
     """The items that Linux finds; the walk ends with an item that has an error, or where no head fits any more."""
     items, at = [], 0

@@ -1,6 +1,7 @@
 """open, read, write, lseek and unlink of file objects, dup, dup2, dupfd, getfl, flags and close (pipe(7), eventfd(2))."""
 from __future__ import annotations
 
+from . import agreed
 from .kernel import Kernel
 from .names import is_valid_path, name_in
 from .rules import Rule
@@ -15,22 +16,31 @@ OFFSET_LIMIT = (1 << 63) - 1
 FILE_NAME_LIMIT = 255
 
 
+class LinuxPath(bytes):
+    """A path that this layer refuses, and Linux looks up."""
+
+
 def path_in(kernel: Kernel, word: str) -> bytes:
     """The path of an open, a create or an unlink, or why it is none."""
     path = name_in(word[2:])
     if kernel.follows(Rule.PATH_OF_NO_FILE) and not path:
         raise Refusal("ENOENT")
-    if len(path) > 107 and 0 not in path and kernel.follows(Rule.LONG_PATH):
+    if is_valid_path(path):
         return path
-    if not is_valid_path(path):
-        raise Refusal("EINVAL")
-    return path
+    if path and 0 not in path and kernel.follows(Rule.LONG_PATH):
+        return LinuxPath(path)
+    raise Refusal("EINVAL")
+
+
+def check_name(path: bytes) -> None:
+    """No file on Linux has a longer name."""
+    if isinstance(path, LinuxPath) and len(path) > FILE_NAME_LIMIT:
+        raise Refusal("ENAMETOOLONG")
 
 
 def opened_at(kernel: Kernel, path: bytes) -> FileObject:
     """The file object of a path, or why it can't be opened."""
-    if len(path) > FILE_NAME_LIMIT:
-        raise Refusal("ENAMETOOLONG")
+    check_name(path)
     if path not in kernel.paths:
         raise Refusal("ENOENT")
     target = kernel.paths[path]
@@ -40,8 +50,12 @@ def opened_at(kernel: Kernel, path: bytes) -> FileObject:
 
 
 def open_target(kernel: Kernel, process: Process, number: int, target: FileObject, mode: str, flags: str) -> None:
-    """Has the number lead to a new description of the file object."""
+    """Has the number lead to a new description of the file object; on Linux one of a counter goes both ways."""
+    if target.kind == "counter" and mode != "rw" and kernel.follows(Rule.COUNTER_OF_ONE_DIRECTION):
+        mode = "rw"
     description = Description(target, mode, "a" in flags, "n" in flags)
+    target.append, target.nonblocking = description.append, description.nonblocking
+    target.opens += 1
     target.opened += 1
     if mode == "r" and target.writers == 0:
         description.writers_seen = target.writers_ever
@@ -54,25 +68,20 @@ def open_target(kernel: Kernel, process: Process, number: int, target: FileObjec
 def call_open(kernel: Kernel, process: Process, words: list[str]) -> str:
     """open(2)."""
     path = path_in(kernel, words[1])
-    mode, flags = words[2], words[3]
-    target = kernel.paths.get(path)
-    if isinstance(target, FileObject) and target.kind == "counter" and mode != "rw" and \
-            kernel.follows(Rule.COUNTER_OF_ONE_DIRECTION):
-        raise Refusal("not tried: a counter of one direction")
-    if kernel.follows(Rule.ORDER_OF_OPEN):
-        kernel.free_number(process)
-    target = opened_at(kernel, path)
+    with kernel.seen_later(Rule.ORDER_OF_OPEN, lambda: kernel.free_number(process)):
+        target = opened_at(kernel, path)
     number = kernel.free_number(process)
-    open_target(kernel, process, number, target, mode, flags)
+    open_target(kernel, process, number, target, words[2], words[3])
     return f"fd {number}"
 
 
 def fails_now(kernel: Kernel, target: FileObject) -> bool:
-    """Counts a read or write that reaches the object, and says whether it is the one that fails."""
+    """Counts a read or write that reaches the object, and says whether it is the one that fails, which on Linux is marked."""
     target.reached += 1
     if target.reached != target.fails_at:
         return False
-    return not kernel.follows(Rule.FAILING_OBJECT)
+    kernel.marks = kernel.follows(Rule.FAILING_OBJECT)
+    return not kernel.marks
 
 
 def read_object(kernel: Kernel, description: Description, target: FileObject, wanted: int) -> bytes:
@@ -155,23 +164,31 @@ def bytes_that_fit(target: FileObject, count: int) -> int:
     return count if count <= room else room if count > PIPE_WHOLE else 0
 
 
-def fill_pages(kernel: Kernel, target: FileObject, count: int) -> int:
-    """How many bytes of a write go into Linux's pages (pipe_write): what is beyond whole pages into the last one, where it fits there
-    and something waits, and the rest into new ones."""
-    page, taken, odd = kernel.machine.page, 0, count % kernel.machine.page
-    if odd and target.pages and sum(target.pages[-1]) + odd <= page:
-        target.pages[-1][1] += odd
-        taken = odd
-    while taken < count and len(target.pages) < kernel.machine.pipe_pages:
-        target.pages.append([0, min(page, count - taken)])
-        taken += target.pages[-1][1]
-    return taken
+def pages_filled(kernel: Kernel, target: FileObject, count: int) -> list[list[int]]:
+    """Linux's pages behind a write (pipe_write): what is beyond whole pages goes into the last one, where it fits there and something
+    waits, and the rest into new ones."""
+    pages, page = [list(found) for found in target.pages], kernel.machine.page
+    left, odd = count, count % page
+    if odd and pages and sum(pages[-1]) + odd <= page:
+        pages[-1][1] += odd
+        left -= odd
+    while left and len(pages) < kernel.machine.pipe_pages:
+        pages.append([0, min(page, left)])
+        left -= pages[-1][1]
+    return pages
+
+
+def bytes_in_pages(pages: list[list[int]]) -> int:
+    """How many bytes wait in pages."""
+    return sum(count for _, count in pages)
 
 
 def write_pipe(kernel: Kernel, target: FileObject, data: bytes) -> int:
     """Puts bytes behind those that wait."""
-    by_pages = kernel.follows(Rule.ROOM_OF_A_PIPE)
-    count = fill_pages(kernel, target, len(data)) if by_pages else bytes_that_fit(target, len(data))
+    filled = pages_filled(kernel, target, len(data))
+    count = kernel.either(Rule.ROOM_OF_A_PIPE, agreed.pipe_takes(target, len(data)), lambda: bytes_that_fit(target, len(data)),
+                          lambda: bytes_in_pages(filled) - bytes_in_pages(target.pages))
+    target.pages = filled
     if count == 0:
         raise Refusal("EAGAIN")
     target.data.extend(data[:count])
@@ -214,8 +231,7 @@ def call_lseek(kernel: Kernel, process: Process, words: list[str]) -> str:
 def call_unlink(kernel: Kernel, process: Process, words: list[str]) -> str:
     """unlink(2)."""
     path = path_in(kernel, words[1])
-    if len(path) > FILE_NAME_LIMIT:
-        raise Refusal("ENAMETOOLONG")
+    check_name(path)
     if path not in kernel.paths:
         raise Refusal("ENOENT")
     target = kernel.paths.pop(path)
@@ -257,22 +273,21 @@ def call_dupfd(kernel: Kernel, process: Process, words: list[str]) -> str:
 def call_getfl(kernel: Kernel, process: Process, words: list[str]) -> str:
     """fcntl(2), F_GETFL and F_GETFD."""
     found = kernel.descriptor(process, int(words[1]))
-    append, nonblocking = found.description.append, found.description.nonblocking
-    if kernel.follows(Rule.FLAGS_OF_THE_REPLAY):
-        target, nonblocking = found.description.target, False
-        if isinstance(target, FileObject) and target.kind == "counter":
-            append = target.appends
-    held = {"APPEND": append, "NONBLOCK": nonblocking, "CLOEXEC": found.cloexec}
+    told: Description | FileObject = found.description
+    target = found.description.target
+    if isinstance(target, FileObject) and target.kind == "counter" and target.opens > 1 and kernel.follows(Rule.FLAGS_OF_THE_REPLAY):
+        told = target
+    held = {"APPEND": told.append, "NONBLOCK": told.nonblocking, "CLOEXEC": found.cloexec}
     return "flags " + ("|".join(name for name, is_set in held.items() if is_set) or "-")
 
 
 def call_flags(kernel: Kernel, process: Process, words: list[str]) -> str:
     """fcntl(2), F_SETFL and F_SETFD."""
     found = kernel.descriptor(process, int(words[1]))
-    found.description.append = "a" in words[2]
-    found.description.nonblocking = "n" in words[2]
-    if isinstance(found.description.target, FileObject):
-        found.description.target.appends = found.description.append
+    description = found.description
+    description.append, description.nonblocking = "a" in words[2], "n" in words[2]
+    if isinstance(description.target, FileObject):
+        description.target.append, description.target.nonblocking = description.append, description.nonblocking
     found.cloexec = "x" in words[2]
     return "ok"
 

@@ -1,6 +1,9 @@
 """A layer's state, with what all calls share: descriptors, references, and what goes at the end of a call."""
 from __future__ import annotations
 
+from contextlib import contextmanager
+from typing import Callable, Iterator, TypeVar
+
 from . import cycles
 from .machine import Machine
 from .names import UNNAMED, Address, autobind_name
@@ -10,11 +13,22 @@ from .state import Description, Descriptor, FileObject, Message, Process, Refusa
 
 TABLE_LIMIT = 4096
 AUTOBIND_NAMES = 1 << 20
+Figure = TypeVar("Figure")
+
+
+def refusal_of(look: Callable[[], object]) -> Refusal | None:
+    """How a look refuses, or nothing."""
+    try:
+        look()
+    except Refusal as refusal:
+        return refusal
+    return None
 
 
 class Kernel:
     """The state. `rules` are the switches that are on, `used` those that a call asked for. `waits` says that the call which
-    is made now would wait on Linux: there some calls that wait end otherwise than those that don't."""
+    is made now would wait on Linux: there some calls that wait end otherwise than those that don't. `marks` says that it reached
+    an object that fails here."""
 
     def __init__(self, script: Script, rules: frozenset[Rule], machine: Machine):
         self.rules = rules
@@ -31,6 +45,9 @@ class Kernel:
         self.unreferenced: list[Description] = []
         self.closed: list[int] = []
         self.waits = False
+        self.marks = False
+
+    # ---- rules
 
     def follows(self, rule: Rule) -> bool:
         """Whether this rule's switch is on, so that the answer is Linux's."""
@@ -38,6 +55,25 @@ class Kernel:
             self.used.add(rule)
             return True
         return False
+
+    def either(self, rule: Rule, said: Figure, here: Callable[[], Figure], there: Callable[[], Figure]) -> Figure:
+        """What is reckoned here, also with the rule's switch on where Linux reckons what the pages say, so that Linux judges it."""
+        if rule not in self.rules or said == there():
+            return here()
+        self.used.add(rule)
+        return there()
+
+    @contextmanager
+    def seen_later(self, rule: Rule, *earlier: Callable[[], object]) -> Iterator[None]:
+        """What is looked at here before the earlier ones on Linux: by the rule those refuse first, where both refuse."""
+        try:
+            yield
+        except Refusal:
+            for look in earlier if rule in self.rules else ():
+                refusal = refusal_of(look)
+                if refusal and self.follows(rule):
+                    raise refusal from None
+            raise
 
     # ---- descriptors
 
@@ -153,9 +189,8 @@ class Kernel:
             return False
         return bool(gone.queue)
 
-    def rights_in_flight(self, uid: int) -> int:
-        """How many rights this user's unread messages have; an ordinary user's replay has processes of one user alone."""
-        together = not self.machine.users_apart and self.follows(Rule.LIMIT_OF_RIGHTS_IN_FLIGHT)
+    def rights_in_flight(self, uid: int, together: bool = False) -> int:
+        """How many rights this user's unread messages have, or all users' together."""
         return sum(len(message.rights) for description in self.descriptions if isinstance(description.target, Socket)
                    for message in description.target.queue if together or message.uid == uid)
 

@@ -1,7 +1,7 @@
 """pipe, eventfd, memfd and create: the calls by which a process makes a file object (pipe(2), eventfd(2), memfd_create(2), open(2))."""
 from __future__ import annotations
 
-from .files import FILE_NAME_LIMIT, open_target, path_in
+from .files import check_name, open_target, path_in
 from .kernel import Kernel
 from .rules import Rule
 from .state import FileObject, Process, Refusal
@@ -27,12 +27,10 @@ def new_object(kernel: Kernel, kind: str) -> FileObject:
 def call_create(kernel: Kernel, process: Process, words: list[str]) -> str:
     """open(2) with O_CREAT and O_EXCL."""
     path = path_in(kernel, words[1])
-    if kernel.follows(Rule.ORDER_OF_OPEN):
-        kernel.free_number(process)
-    if len(path) > FILE_NAME_LIMIT:
-        raise Refusal("ENAMETOOLONG")
-    if path in kernel.paths:
-        raise Refusal("EEXIST")
+    with kernel.seen_later(Rule.ORDER_OF_OPEN, lambda: kernel.free_number(process)):
+        check_name(path)
+        if path in kernel.paths:
+            raise Refusal("EEXIST")
     number = kernel.free_number(process)
     made = new_object(kernel, "mem")
     made.has_path = True

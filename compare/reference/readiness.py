@@ -1,32 +1,21 @@
 """poll of one descriptor (poll(2); unix_poll and unix_dgram_poll, pipe_poll of Linux)."""
 from __future__ import annotations
 
+from . import agreed
 from .files import COUNTER_LIMIT, PIPE_LIMIT, PIPE_WHOLE
 from .kernel import Kernel
+from .rooms import has_memory, has_room, is_queue_full, rule_of
 from .rules import Rule
-from .sending import RECORD_LIMIT, is_queue_full
 from .state import Description, FileObject, Process, Socket
 
 CONDITIONS = ("IN", "OUT", "RDHUP", "HUP", "ERR", "NVAL")
 
 
-def has_memory(kernel: Kernel, socket: Socket) -> bool:
-    """Whether Linux tells a socket as writable (unix_writable): what it is charged is a quarter at most."""
-    return (socket.charged + 1) * 4 <= kernel.machine.send_buffer
-
-
-def has_room(target: Socket) -> bool:
-    """Whether the layer's queue takes one more message, of a stream one more byte."""
-    if target.kind == "stream":
-        return sum(len(message.data) for message in target.queue) < target.queue_limit
-    return len(target.queue) < RECORD_LIMIT
-
-
 def can_send(kernel: Kernel, socket: Socket) -> bool:
     """OUT of a connected socket."""
-    if kernel.follows(Rule.ROOM_OF_A_STREAM if socket.kind == "stream" else Rule.MESSAGES_IN_A_QUEUE):
-        return has_memory(kernel, socket)
-    return socket.peer.is_gone or socket.is_shut("w") or has_room(socket.peer)
+    is_refused = socket.peer.is_gone or socket.is_shut("w")
+    return kernel.either(rule_of(socket), is_refused or agreed.has_room(socket.peer), lambda: is_refused or has_room(socket.peer),
+                         lambda: has_memory(kernel, socket))
 
 
 def tied_conditions(kernel: Kernel, socket: Socket) -> set[str]:
@@ -63,15 +52,18 @@ def untied_conditions(kernel: Kernel, socket: Socket) -> set[str]:
     return found | {"HUP"}
 
 
+def sends_there(kernel: Kernel, socket: Socket) -> bool:
+    """OUT of a datagram socket on Linux."""
+    target = socket.peer
+    return has_memory(kernel, socket) and (target is None or target.is_gone or not is_queue_full(kernel, socket, target))
+
+
 def sends_at_once(kernel: Kernel, socket: Socket) -> bool:
     """OUT of a datagram socket."""
     target = socket.peer
-    if kernel.follows(Rule.MESSAGES_IN_A_QUEUE):
-        waits = target is not None and not target.is_gone and is_queue_full(kernel, socket, target)
-        return has_memory(kernel, socket) and not waits
-    if target is None or target.is_gone or "w" in socket.shut:
-        return True
-    return target.peer not in (None, socket) or "r" in target.shut or has_room(target)
+    is_refused = target is None or target.is_gone or "w" in socket.shut or target.peer not in (None, socket) or "r" in target.shut
+    return kernel.either(rule_of(socket), is_refused or agreed.has_room(target), lambda: is_refused or has_room(target),
+                         lambda: sends_there(kernel, socket))
 
 
 def datagram_conditions(kernel: Kernel, socket: Socket) -> set[str]:
@@ -100,10 +92,8 @@ def pipe_conditions(kernel: Kernel, description: Description, target: FileObject
         if not target.writers and not (not_yet and kernel.follows(Rule.PIPE_NOT_YET_WRITTEN)):
             found.add("HUP")
     if "w" in description.mode:
-        if kernel.follows(Rule.ROOM_OF_A_PIPE):
-            has_space = len(target.pages) < kernel.machine.pipe_pages
-        else:
-            has_space = len(target.data) + PIPE_WHOLE <= PIPE_LIMIT
+        has_space = kernel.either(Rule.ROOM_OF_A_PIPE, agreed.pipe_has_room(target), lambda: len(target.data) + PIPE_WHOLE <= PIPE_LIMIT,
+                                  lambda: len(target.pages) < kernel.machine.pipe_pages)
         found |= {"OUT"} if has_space else set()
         found |= set() if target.readers else {"ERR"}
     return found

@@ -26,10 +26,11 @@ class Front:
 
 @dataclass
 class Asked:
-    """What a receive asks for: bytes, control space, and flags by their letters."""
+    """What a receive asks for: bytes, control space, and flags by their letters; and whether it doesn't wait for them."""
     wanted: int
     space: int
     flags: str
+    at_once: bool = False
 
     @property
     def peeks(self) -> bool:
@@ -132,7 +133,8 @@ def sender_name(kernel: Kernel, socket: Socket, front: Front) -> str:
     """The name that a receive tells: here a datagram's alone, as it was when it was sent."""
     sender = front.first.sender
     if socket.is_datagram:
-        name = sender.name if kernel.follows(Rule.SENDER_NAMED_LATER) else front.first.name
+        is_newly_named = sender.has_name and not front.first.was_named
+        name = sender.name if is_newly_named and kernel.follows(Rule.SENDER_NAMED_LATER) else front.first.name
         return "-" if name.kind == "u" and kernel.follows(Rule.UNNAMED_SENDER) else str(name)
     rule = Rule.SENDER_OF_A_STREAM if socket.kind == "stream" else Rule.RECORD_END
     return str(sender.name) if sender.has_name and kernel.follows(rule) else "-"
@@ -184,7 +186,7 @@ def receive_datagram(kernel: Kernel, process: Process, socket: Socket, asked: As
         check_error(socket)
     if socket.queue:
         return receive_front(kernel, process, socket, asked)
-    if "r" in socket.shut and (kernel.waits or not kernel.follows(Rule.DATAGRAM_SOCKET_SHUT_FOR_READING)):
+    if "r" in socket.shut and (not asked.at_once or not kernel.follows(Rule.DATAGRAM_SOCKET_SHUT_FOR_READING)):
         return "got 0 - - - -"
     raise Refusal("EAGAIN")
 
@@ -216,11 +218,13 @@ def receive(kernel: Kernel, process: Process, socket: Socket, asked: Asked) -> s
 def call_recv(kernel: Kernel, process: Process, words: list[str]) -> str:
     """recvmsg(2)."""
     socket = kernel.socket(process, int(words[1]))
-    return receive(kernel, process, socket, Asked(int(words[2]), int(words[3]), words[4]))
+    at_once = "d" in words[4] or process.table[int(words[1])].description.nonblocking
+    return receive(kernel, process, socket, Asked(int(words[2]), int(words[3]), words[4], at_once))
 
 
-def read_socket(kernel: Kernel, process: Process, socket: Socket, wanted: int) -> str:
+def read_socket(kernel: Kernel, process: Process, description: Description, wanted: int) -> str:
     """read(2) on a socket: a receive without flags and control space, which answers the bytes alone."""
     if wanted == 0 and kernel.follows(Rule.READ_OF_NO_BYTES):
         return "bytes -"
-    return "bytes " + receive(kernel, process, socket, Asked(min(wanted, READ_LIMIT), 0, "-")).split(" ")[2]
+    asked = Asked(min(wanted, READ_LIMIT), 0, "-", description.nonblocking)
+    return "bytes " + receive(kernel, process, description.target, asked).split(" ")[2]

@@ -67,4 +67,5 @@ class Rule(Enum):
 
 
 ALL_RULES = frozenset(Rule)
+ORDINARY_USERS = frozenset({Rule.PRIVILEGE})  # what the superuser's replay doesn't need
 NO_RULES: frozenset[Rule] = frozenset()

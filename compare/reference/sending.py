@@ -1,20 +1,16 @@
 """send and write on sockets (sendmsg(2); unix_stream_sendmsg, unix_dgram_sendmsg and __scm_send of Linux)."""
 from __future__ import annotations
 
-from dataclasses import dataclass, field
+from dataclasses import dataclass, field, replace
 
-from .control import RIGHTS_LIMIT, Item, buffer_in, items_by_grammar, items_by_linux
-from .kernel import Kernel
+from .control import RIGHTS_LIMIT, Item, buffer_in, is_read_alike, items_by_grammar, items_by_linux
+from .kernel import Kernel, refusal_of
 from .names import UNNAMED, Address, address_in
+from .rooms import is_too_long, is_used_up, message_sizes, taken
 from .rules import Rule
 from .script import bytes_of
 from .sockets import takes_address
 from .state import Description, Message, Process, Refusal, Socket
-
-RECORD_LIMIT = 16
-RECORD_BYTES = 65536
-LEFT_OF_A_BUFFER = 32  # what a message's length must leave of SO_SNDBUF (unix_dgram_sendmsg)
-
 
 @dataclass
 class Sending:
@@ -29,17 +25,6 @@ class Sending:
 
 # ---- what the caller gives
 
-def items_in(kernel: Kernel, word: str) -> list[Item]:
-    """The items of a control buffer, or EINVAL where it is no list of them."""
-    buffer = buffer_in(word)
-    if kernel.follows(Rule.CONTROL_THAT_IS_NONE):
-        return items_by_linux(buffer)
-    items = items_by_grammar(buffer)
-    if items is None:
-        raise Refusal("EINVAL")
-    return items
-
-
 def descriptions_behind(sending: Sending, numbers: list[int]) -> list[Description]:
     """What the numbers lead to, or EBADF."""
     table = sending.process.table
@@ -49,7 +34,10 @@ def descriptions_behind(sending: Sending, numbers: list[int]) -> list[Descriptio
 
 
 def give_credentials(kernel: Kernel, sending: Sending, given: tuple[int, int, int]) -> None:
-    """Has the message tell these credentials, where the sender may give them."""
+    """Has the message tell these credentials, where the sender may give them. An ordinary user's replay gives its own instead."""
+    is_other = given != sending.process.credentials
+    if sending.process.privileged and is_other and not kernel.machine.own_users and kernel.follows(Rule.PRIVILEGE):
+        given = sending.process.credentials
     if sending.process.privileged:
         pid = given[0]
         if not 1 <= pid <= len(kernel.processes) or kernel.processes[pid - 1].has_exited:
@@ -59,7 +47,7 @@ def give_credentials(kernel: Kernel, sending: Sending, given: tuple[int, int, in
     sending.credentials = given
 
 
-def judge_items(kernel: Kernel, sending: Sending, items: list[Item]) -> None:
+def judge_as_they_come(kernel: Kernel, sending: Sending, items: list[Item]) -> None:
     """Linux judges each item as it comes, with its rights."""
     for item in items:
         if item.error:
@@ -78,98 +66,99 @@ def check_rights_have_data(kernel: Kernel, sending: Sending, count: int) -> None
         raise Refusal("EINVAL")
 
 
-def judge_in_order(kernel: Kernel, sending: Sending, items: list[Item]) -> None:
-    """The layer judges the buffer, then all rights, then credentials, then the address."""
-    numbers = [number for item in items for number in item.rights]
-    if any(item.error for item in items) or len(numbers) > RIGHTS_LIMIT:
+def judge_in_order(kernel: Kernel, sending: Sending, items: list[Item] | None) -> None:
+    """The layer judges the buffer, then all rights, then credentials; on Linux credentials that stand first come first."""
+    if items is None:
         raise Refusal("EINVAL")
-    check_rights_have_data(kernel, sending, len(numbers))
-    sending.rights = descriptions_behind(sending, numbers)
-    for item in items:
-        if item.credentials is not None:
-            give_credentials(kernel, sending, item.credentials)
+
+    def look_at_credentials() -> None:
+        for item in items:
+            if item.credentials is not None:
+                give_credentials(kernel, sending, item.credentials)
+    stand_first = bool(items) and items[0].credentials is not None
+    with kernel.seen_later(Rule.ORDER_OF_SEND, *([look_at_credentials] if stand_first else [])):
+        numbers = [number for item in items for number in item.rights]
+        if len(numbers) > RIGHTS_LIMIT:
+            raise Refusal("EINVAL")
+        check_rights_have_data(kernel, sending, len(numbers))
+        sending.rights = descriptions_behind(sending, numbers)
+    look_at_credentials()
+
+
+def is_none_to_linux(kernel: Kernel, sending: Sending, items: list[Item]) -> bool:
+    """Whether Linux refuses a buffer as one that isn't understood."""
+    refusal = refusal_of(lambda: judge_as_they_come(kernel, replace(sending, rights=[]), items))
+    return refusal is not None and refusal.reply == "err EINVAL"
+
+
+def judge_buffer(kernel: Kernel, sending: Sending, buffer: bytes) -> None:
+    """What a control buffer gives. Linux takes some that are no lists of items."""
+    found = items_by_linux(buffer)
+    is_alike = is_read_alike(buffer) or is_none_to_linux(kernel, sending, found)
+    if not is_alike and kernel.follows(Rule.CONTROL_THAT_IS_NONE):
+        judge_as_they_come(kernel, sending, found)
+        check_rights_have_data(kernel, sending, len(sending.rights))
+    else:
+        judge_in_order(kernel, sending, items_by_grammar(buffer))
+
+
+def judge_address(kernel: Kernel, sending: Sending) -> None:
+    """EINVAL of an address that is none. Linux doesn't look at one that is given to a stream, which refuses any."""
     ignored = sending.socket.kind == "seq" and kernel.follows(Rule.ADDRESS_AT_A_SEQPACKET_SOCKET)
-    if sending.address is not None and not ignored:
+    if sending.address is None or ignored:
+        return
+    with kernel.seen_later(Rule.ORDER_OF_SEND, *([lambda: check_tied(kernel, sending)] if sending.socket.kind == "stream" else [])):
         if sending.address == UNNAMED or not takes_address(kernel, sending.address):
             raise Refusal("EINVAL")
 
 
 # ---- room
 
+def check_memory(kernel: Kernel, sending: Sending) -> None:
+    """EAGAIN where a sender's memory is used up, which Linux finds before other things that refuse."""
+    if is_used_up(kernel, sending.socket):
+        raise Refusal("EAGAIN")
+
+
 def limit_of(kernel: Kernel, process: Process) -> int | None:
-    """How many rights its user may have in flight; a privileged process has no limit here."""
-    return None if process.privileged and not kernel.follows(Rule.LIMIT_OF_RIGHTS_IN_FLIGHT) else process.limit
+    """How many rights its user may have in flight; a privileged process has no limit."""
+    return None if process.privileged else process.limit
 
 
 def check_rights_in_flight(kernel: Kernel, sending: Sending) -> None:
-    """ETOOMANYREFS: here where those of this send would be too many, on Linux where those before it are."""
-    limit = limit_of(kernel, sending.process)
-    if not sending.rights or limit is None:
+    """ETOOMANYREFS: here where those of this send would be too many, on Linux where those before it are, also of others."""
+    process, limit, ours = sending.process, limit_of(kernel, sending.process), len(sending.rights)
+    if not ours:
         return
-    ours = 0 if kernel.follows(Rule.LIMIT_OF_RIGHTS_IN_FLIGHT) else len(sending.rights)
-    if kernel.rights_in_flight(sending.process.uid) + ours > limit:
+    own = kernel.rights_in_flight(process.uid)
+    there = kernel.rights_in_flight(process.uid, not kernel.machine.users_apart)
+    if kernel.either(Rule.LIMIT_OF_RIGHTS_IN_FLIGHT, not process.privileged and own + ours > process.limit,
+                     lambda: limit is not None and own + ours > limit, lambda: there > process.limit):
         raise Refusal("ETOOMANYREFS")
-
-
-def counts_memory(kernel: Kernel, socket: Socket) -> bool:
-    """Whether a send is bounded by the memory that the sender is charged for, as on Linux."""
-    return kernel.follows(Rule.ROOM_OF_A_STREAM if socket.kind == "stream" else Rule.MESSAGES_IN_A_QUEUE)
-
-
-def is_queue_full(kernel: Kernel, sender: Socket, target: Socket) -> bool:
-    """Whether a datagram must wait for the target's queue: on Linux of one that isn't tied to the sender."""
-    return target is not sender and target.peer is not sender and len(target.queue) > kernel.machine.datagrams
-
-
-def check_memory(kernel: Kernel, sending: Sending) -> None:
-    """EAGAIN where the sender's memory is used up (sock_alloc_send_pskb)."""
-    if counts_memory(kernel, sending.socket) and sending.socket.charged >= kernel.machine.send_buffer:
-        raise Refusal("EAGAIN")
 
 
 def part_that_fits(kernel: Kernel, sending: Sending, target: Socket) -> bytes:
     """What the target's queue takes of the bytes, or EAGAIN."""
-    if counts_memory(kernel, sending.socket):
-        if target.is_datagram and is_queue_full(kernel, sending.socket, target):
-            raise Refusal("EAGAIN")
-        return sending.data
-    if target.kind != "stream":
-        if len(target.queue) >= RECORD_LIMIT:
-            raise Refusal("EAGAIN")
-        return sending.data
-    room = target.queue_limit - sum(len(message.data) for message in target.queue)
-    if room <= 0:
+    count = taken(kernel, sending.socket, target, len(sending.data))
+    if count is None:
         raise Refusal("EAGAIN")
-    return sending.data[:room]
+    return sending.data[:count]
 
 
 def check_length(kernel: Kernel, sending: Sending) -> None:
-    """EMSGSIZE of a datagram or record that is too long; on Linux of one that the sender's buffer hasn't room for."""
-    if sending.socket.kind == "stream":
-        return
-    limit = kernel.machine.send_buffer - LEFT_OF_A_BUFFER if counts_memory(kernel, sending.socket) else RECORD_BYTES
-    if len(sending.data) > limit:
+    """EMSGSIZE of a datagram or record that is too long."""
+    if sending.socket.kind != "stream" and is_too_long(kernel, len(sending.data)):
         raise Refusal("EMSGSIZE")
 
 
-def messages_of(kernel: Kernel, socket: Socket, data: bytes) -> list[bytes]:
-    """What a send puts into the queue: one message, of a long one of a stream several on Linux (unix_stream_sendmsg)."""
-    size = kernel.machine.message
-    if socket.kind != "stream" or len(data) <= size or not kernel.follows(Rule.LONG_SEND_OF_A_STREAM):
-        return [data]
-    return [data[at:at + size] for at in range(0, len(data), size)]
-
-
-def enqueue(kernel: Kernel, sending: Sending, target: Socket) -> int:
-    """Puts the message, or what fits of it, into the target's queue. On Linux it goes on as long as the sender has memory."""
-    sent, sender = 0, sending.socket
-    for data in messages_of(kernel, sender, part_that_fits(kernel, sending, target)):
-        if sent and sender.charged >= kernel.machine.send_buffer and counts_memory(kernel, sender):
-            break
-        put_message(kernel, sending, target, data)
+def enqueue(kernel: Kernel, sending: Sending, target: Socket, data: bytes) -> int:
+    """Puts what fits into the target's queue, on Linux as several messages where it is long."""
+    at = 0
+    for size in message_sizes(kernel, sending.socket, len(data)):
+        put_message(kernel, sending, target, data[at:at + size])
         sending.rights = []
-        sent += len(data)
-    return sent
+        at += size
+    return len(data)
 
 
 def put_message(kernel: Kernel, sending: Sending, target: Socket, data: bytes) -> None:
@@ -178,7 +167,7 @@ def put_message(kernel: Kernel, sending: Sending, target: Socket, data: bytes) -
     is_signed = bool(sending.credentials) or sender.passcred or target.passcred or not target.is_accepted or \
         not kernel.follows(Rule.CREDENTIALS_ASKED_FOR_LATER)
     message = Message(data, sending.rights, sending.credentials or process.credentials, process.uid, sender.name, sender,
-                      is_signed, kernel.machine.cost(sender.kind, len(data)))
+                      is_signed, sender.has_name, kernel.machine.cost(sender.kind, len(data)))
     for right in message.rights:
         kernel.hold(right)
     sender.charged += message.cost
@@ -216,15 +205,12 @@ def send_tied(kernel: Kernel, sending: Sending) -> int:
     if sending.socket.kind == "stream" and not sending.data:
         return 0
     check_length(kernel, sending)
-    if kernel.follows(Rule.ORDER_OF_SEND):
-        check_memory(kernel, sending)
+    with kernel.seen_later(Rule.ORDER_OF_SEND, lambda: check_memory(kernel, sending)):
         check_rights_in_flight(kernel, sending)
-    else:
-        check_rights_in_flight(kernel, sending)
-        check_memory(kernel, sending)
+    data = part_that_fits(kernel, sending, peer)
     if "r" in peer.shut:
         raise Refusal("EPIPE")
-    return enqueue(kernel, sending, peer)
+    return enqueue(kernel, sending, peer, data)
 
 
 def check_destination(kernel: Kernel, sending: Sending) -> None:
@@ -233,16 +219,22 @@ def check_destination(kernel: Kernel, sending: Sending) -> None:
         raise Refusal("ENOTCONN" if kernel.follows(Rule.DESTINATION_REQUIRED) else "EDESTADDRREQ")
 
 
+class LostTarget(Refusal):
+    """The target of an association is gone."""
+
+
 def target_of(kernel: Kernel, sending: Sending) -> Socket:
-    """Where a datagram goes; a target that is gone ends the association."""
-    socket = sending.socket
-    if sending.address is not None:
-        return kernel.look_up("dgram", sending.address)
-    check_destination(kernel, sending)
-    if socket.peer.is_gone:
-        end_association(kernel, socket)
-        raise Refusal("ECONNREFUSED")
-    return socket.peer
+    """Where a datagram goes, or why it can't."""
+    if sending.address is None:
+        check_destination(kernel, sending)
+        if sending.socket.peer.is_gone:
+            raise LostTarget("ECONNREFUSED")
+    target = sending.socket.peer if sending.address is None else kernel.look_up("dgram", sending.address)
+    if target.peer not in (None, sending.socket):
+        raise Refusal("EPERM")
+    if "r" in target.shut:
+        raise Refusal("EPIPE")
+    return target
 
 
 def end_association(kernel: Kernel, socket: Socket) -> None:
@@ -255,27 +247,24 @@ def end_association(kernel: Kernel, socket: Socket) -> None:
 
 
 def send_datagram(kernel: Kernel, sending: Sending) -> int:
-    """To the address that was given, or to the target."""
-    early = kernel.follows(Rule.ORDER_OF_SEND)
-    if early and kernel.machine.peer_first:
+    """To the address that was given, or to the target, which ends the association where it is gone."""
+    if kernel.machine.peer_first and kernel.follows(Rule.ORDER_OF_SEND):
         check_destination(kernel, sending)
     kernel.name_if_asked(sending.socket)
     check_length(kernel, sending)
     check_record_error(kernel, sending.socket)
     if "w" in sending.socket.shut:
         raise Refusal("EPIPE")
-    if early:
-        check_memory(kernel, sending)
+    looks = [lambda: check_memory(kernel, sending), lambda: check_rights_in_flight(kernel, sending)]
+    try:
+        with kernel.seen_later(Rule.ORDER_OF_SEND, *looks):
+            target = target_of(kernel, sending)
+    except LostTarget:
+        end_association(kernel, sending.socket)
+        raise
+    with kernel.seen_later(Rule.ORDER_OF_SEND, looks[0]):
         check_rights_in_flight(kernel, sending)
-    target = target_of(kernel, sending)
-    if target.peer not in (None, sending.socket):
-        raise Refusal("EPERM")
-    if "r" in target.shut:
-        raise Refusal("EPIPE")
-    if not early:
-        check_rights_in_flight(kernel, sending)
-        check_memory(kernel, sending)
-    return enqueue(kernel, sending, target)
+    return enqueue(kernel, sending, target, part_that_fits(kernel, sending, target))
 
 
 # ---- the calls
@@ -290,18 +279,11 @@ def check_linux_seqpacket(kernel: Kernel, sending: Sending) -> None:
 def send_message(kernel: Kernel, sending: Sending, control: str) -> int:
     """sendmsg(2) by what the socket is, in the layer's order of errors or Linux's."""
     is_seq = sending.socket.kind == "seq"
-    if kernel.follows(Rule.ORDER_OF_SEND):
-        if is_seq:
-            check_linux_seqpacket(kernel, sending)
-        judge_items(kernel, sending, items_in(kernel, control))
-        check_rights_have_data(kernel, sending, len(sending.rights))
-        if sending.socket.is_datagram and sending.address is not None:
-            if sending.address == UNNAMED or not takes_address(kernel, sending.address):
-                raise Refusal("EINVAL")
-    else:
-        judge_in_order(kernel, sending, items_in(kernel, control))
-        if is_seq:
-            check_record_error(kernel, sending.socket)
+    with kernel.seen_later(Rule.ORDER_OF_SEND, *([lambda: check_linux_seqpacket(kernel, sending)] if is_seq else [])):
+        judge_buffer(kernel, sending, buffer_in(control))
+        judge_address(kernel, sending)
+    if is_seq:
+        check_record_error(kernel, sending.socket)
     return send_datagram(kernel, sending) if sending.socket.is_datagram else send_tied(kernel, sending)
 
 

@@ -1,6 +1,7 @@
 """socket, pair, bind, listen, accept, shut, options and names (bind(2), listen(2), accept(2), unix(7))."""
 from __future__ import annotations
 
+from . import agreed
 from .kernel import Kernel
 from .names import UNNAMED, Address, address_in, is_valid
 from .rules import Rule
@@ -40,22 +41,27 @@ def call_pair(kernel: Kernel, process: Process, words: list[str]) -> str:
     return f"fds {numbers[0]} {numbers[1]}"
 
 
+def check_path_is_free(kernel: Kernel, address: Address) -> None:
+    """No path can be had twice."""
+    if address.kind == "p" and address.name in kernel.paths:
+        raise Refusal("EADDRINUSE")
+
+
 def call_bind(kernel: Kernel, process: Process, words: list[str]) -> str:
     """bind(2)."""
     socket = kernel.socket(process, int(words[1]))
     address = address_in(words[2])
     if address == UNNAMED and socket.has_name and kernel.follows(Rule.BIND_AGAIN):
         return "ok"
-    takes = takes_address(kernel, address)
-    if takes and address.kind == "p" and address.name in kernel.paths and kernel.follows(Rule.ORDER_OF_BIND):
-        raise Refusal("EADDRINUSE")
-    if socket.has_name or not takes:
+    if not takes_address(kernel, address):
         raise Refusal("EINVAL")
+    with kernel.seen_later(Rule.ORDER_OF_BIND, lambda: check_path_is_free(kernel, address)):
+        if socket.has_name:
+            raise Refusal("EINVAL")
     if address == UNNAMED:
         kernel.autobind(socket)
     elif address.kind == "p":
-        if address.name in kernel.paths:
-            raise Refusal("EADDRINUSE")
+        check_path_is_free(kernel, address)
         kernel.paths[address.name] = socket
         socket.name = address
     else:
@@ -65,11 +71,21 @@ def call_bind(kernel: Kernel, process: Process, words: list[str]) -> str:
     return "ok"
 
 
-def backlog_of(kernel: Kernel, wanted: int) -> int:
-    """How many may wait: here 1 to 128, on Linux one more than was asked for, and the most for a negative one."""
-    if not kernel.follows(Rule.BACKLOG):
-        return max(1, min(BACKLOG_LIMIT, wanted))
+def backlog_here(wanted: int) -> int:
+    """How many may wait: 1 to 128."""
+    return max(1, min(BACKLOG_LIMIT, wanted))
+
+
+def backlog_there(kernel: Kernel, wanted: int) -> int:
+    """The same on Linux: one more than was asked for, and the most for a negative one."""
     return (kernel.machine.backlog if wanted < 0 else min(wanted, kernel.machine.backlog)) + 1
+
+
+def is_backlog_full(kernel: Kernel, listener: Socket) -> bool:
+    """Whether no more connections may wait."""
+    waiting = len(listener.pending)
+    return kernel.either(Rule.BACKLOG, agreed.is_full(listener), lambda: waiting >= backlog_here(listener.backlog),
+                         lambda: waiting >= backlog_there(kernel, listener.backlog))
 
 
 def call_listen(kernel: Kernel, process: Process, words: list[str]) -> str:
@@ -82,7 +98,7 @@ def call_listen(kernel: Kernel, process: Process, words: list[str]) -> str:
     if not socket.has_name:
         raise Refusal("EINVAL" if kernel.follows(Rule.LISTEN_WITHOUT_A_NAME) else "EDESTADDRREQ")
     socket.listens = True
-    socket.backlog = backlog_of(kernel, int(words[2]))
+    socket.backlog = int(words[2])
     socket.own_credentials = process.credentials
     return "ok"
 
@@ -90,13 +106,12 @@ def call_listen(kernel: Kernel, process: Process, words: list[str]) -> str:
 def call_accept(kernel: Kernel, process: Process, words: list[str]) -> str:
     """accept4(2)."""
     kernel.descriptor(process, int(words[1]))
-    if kernel.follows(Rule.ORDER_OF_ACCEPT):
-        kernel.free_number(process)
-    listener = kernel.socket(process, int(words[1]))
-    if listener.is_datagram:
-        raise Refusal("EOPNOTSUPP")
-    if not listener.listens:
-        raise Refusal("EINVAL")
+    with kernel.seen_later(Rule.ORDER_OF_ACCEPT, lambda: kernel.free_number(process)):
+        listener = kernel.socket(process, int(words[1]))
+        if listener.is_datagram:
+            raise Refusal("EOPNOTSUPP")
+        if not listener.listens:
+            raise Refusal("EINVAL")
     number = kernel.free_number(process)
     if not listener.pending:
         raise Refusal("EINVAL" if kernel.waits and "r" in listener.shut else "EAGAIN")
@@ -136,12 +151,16 @@ def peer_credentials(kernel: Kernel, socket: Socket) -> tuple[int, int, int]:
     raise Refusal("ENOTCONN")
 
 
+def check_option(kernel: Kernel, option: str) -> None:
+    """Linux has all of them but this layer's own."""
+    if option == "qlimit" and kernel.follows(Rule.QUEUE_LIMIT):
+        raise Refusal("ENOPROTOOPT")
+
+
 def call_getopt(kernel: Kernel, process: Process, words: list[str]) -> str:
     """getsockopt(2)."""
-    option = words[2]
-    if option == "qlimit" and kernel.follows(Rule.QUEUE_LIMIT):
-        raise Refusal("not tried: qlimit")
-    socket = kernel.socket(process, int(words[1]))
+    option, socket = words[2], kernel.socket(process, int(words[1]))
+    check_option(kernel, option)
     if option == "type":
         return f"opt {TYPE_NUMBERS[socket.kind]}"
     if option == "error":
@@ -166,9 +185,8 @@ def set_passcred(kernel: Kernel, socket: Socket, value: int) -> None:
 def call_setopt(kernel: Kernel, process: Process, words: list[str]) -> str:
     """setsockopt(2)."""
     option, value = words[2], int(words[3])
-    if option == "qlimit" and kernel.follows(Rule.QUEUE_LIMIT):
-        raise Refusal("not tried: qlimit")
     socket = kernel.socket(process, int(words[1]))
+    check_option(kernel, option)
     if option == "passcred":
         set_passcred(kernel, socket, value)
     elif option != "qlimit":

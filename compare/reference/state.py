@@ -10,9 +10,10 @@ FIRST_QUEUE_LIMIT = 65536
 
 @dataclass(eq=False)
 class FileObject:
-    """A memory file, a counter or a pipe. `pages` has a pipe's buffers on Linux, as [first byte, bytes]. `appends` is what
-    was set last at any of its descriptions, which of a counter are one behind the replay. `has_any_offset` says that its
-    file system on Linux has no bound but the type's, as that of memfd_create(2)."""
+    """A memory file, a counter or a pipe. `pages` has a pipe's buffers on Linux, as [first byte, bytes]. `opens` counts how often
+    it was opened, and `append` and `nonblocking` are what was set last at any of its descriptions, which of a counter are one
+    behind the replay. `has_any_offset` says that its file system on Linux has no bound but the type's, as that of
+    memfd_create(2)."""
     number: int
     kind: str
     data: bytearray
@@ -26,13 +27,16 @@ class FileObject:
     writers: int = 0
     writers_ever: int = 0
     pages: list[list[int]] = field(default_factory=list)
-    appends: bool = False
+    opens: int = 0
+    append: bool = False
+    nonblocking: bool = False
     has_any_offset: bool = False
 
 
 @dataclass(eq=False)
 class Message:
-    """What waits in a socket's queue. `is_signed` says that Linux keeps the sender's credentials with it."""
+    """What waits in a socket's queue. `is_signed` says that Linux keeps the sender's credentials with it, `was_named` that its
+    sender had a name."""
     data: bytes
     rights: list[Description]
     credentials: tuple[int, int, int]
@@ -40,6 +44,7 @@ class Message:
     name: Address
     sender: Socket
     is_signed: bool
+    was_named: bool
     cost: int = 0
 
 

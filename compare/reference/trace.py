@@ -6,7 +6,6 @@ from dataclasses import dataclass, field
 from typing import Callable
 
 from . import connecting, files, making, readiness, receiving, sending, sockets, users
-from .control import SCM_CREDENTIALS, buffer_in
 from .kernel import Kernel
 from .machine import Machine
 from .names import name_in
@@ -39,7 +38,7 @@ def call_read(kernel: Kernel, process: Process, words: list[str]) -> str:
     """read(2)."""
     description = kernel.descriptor(process, int(words[1])).description
     if isinstance(description.target, Socket):
-        return receiving.read_socket(kernel, process, description.target, int(words[2]))
+        return receiving.read_socket(kernel, process, description, int(words[2]))
     wanted = min(int(words[2]), files.READ_LIMIT)
     return "bytes " + (files.read_object(kernel, description, description.target, wanted).hex() or "-")
 
@@ -137,30 +136,14 @@ def changes_ids(process: Process, words: list[str]) -> bool:
     return bool(given) and users.NO_ID not in given and given != (process.uid, process.gid) and process.privileged
 
 
-def wants_privilege(process: Process, words: list[str]) -> bool:
-    """Whether a send gives credentials that only a privileged process may give."""
-    if words[0] != "send" or not process.privileged:
-        return False
-    buffer, at = buffer_in(words[4]), 0
-    while at + 16 <= len(buffer):
-        length = int.from_bytes(buffer[at:at + 8], "little")
-        if not 16 <= length <= len(buffer) - at:
-            return False
-        given = tuple(int.from_bytes(buffer[at + place:at + place + 4], "little") for place in (16, 20, 24))
-        kind = int.from_bytes(buffer[at + 12:at + 16], "little")
-        if kind == SCM_CREDENTIALS and length == 28 and given != process.credentials:
-            return True
-        at += (length + 7) // 8 * 8
-    return False
-
-
 def check_tried(kernel: Kernel, process: Process, words: list[str]) -> None:
-    """What Linux has no call for, and the replay says so before it makes one."""
+    """What Linux has no call for, and the replay says so before it makes one; that there is no socket comes before."""
     why = path_not_tried(words)
+    if why and words[0] in ADDRESS_PLACE:
+        kernel.socket(process, int(words[1]))
     if why and kernel.follows(Rule.PATH_OF_NO_FILE):
         raise Refusal(f"not tried: {why}")
-    wants = wants_privilege(process, words) or (not kernel.machine.own_users and changes_ids(process, words))
-    if wants and kernel.follows(Rule.PRIVILEGE):
+    if not kernel.machine.own_users and changes_ids(process, words) and kernel.follows(Rule.PRIVILEGE):
         raise Refusal("not tried: privilege")
 
 
@@ -185,6 +168,8 @@ class Run:
         except Refusal as refusal:
             reply = refusal.reply
         self.kernel.settle()
+        if self.kernel.marks:
+            self.kernel.marks, reply = False, f"{reply} (fails)"
         return self.add(call.pid, call.words[0], reply, call.row, state)
 
     def add(self, pid: int, word: str, reply: str, row: int = 0, state: str = "-") -> Line:

@@ -166,7 +166,7 @@ void live(int channel, pid_t parent) {
     become_ordinary(own->user, own->group, own->privileged);
     if (end_with_parent(parent) < 0) _exit(2);
     if (dup2(channel, CHANNEL) < 0 || dup2(memory, MEMORY) < 0) _exit(2);
-    if (close_from_to(0, CHANNEL - 1) < 0 || close_from_to(MEMORY + 1, ~0u) < 0) _exit(2);
+    if (close_from_to(0, CHANNEL - 1) < 0 || close_from_to(MEMORY + 1, INT_MAX) < 0) _exit(2);
     signal(SIGPIPE, SIG_IGN);
     signal(SIGXFSZ, SIG_IGN);
     if (setrlimit(RLIMIT_FSIZE, &longest) < 0) _exit(2);

@@ -12,16 +12,12 @@ static union {
 
 unsigned char *control_bytes(void) { return control.bytes; }
 
+/* The machine's credentials for a script's. A privileged process of a run without users of its own can give its own alone. */
 static struct ucred real_credentials(unsigned pid, unsigned uid, unsigned gid) {
     struct ucred real = {.pid = NO_PROCESS, .uid = real_user(uid), .gid = real_group(gid)};
     if (pid >= 1 && pid <= shared->process_count) real.pid = shared->pids[pid];
+    if (shared->processes[me].privileged && !shared->has_own_users) real = (struct ucred){getpid(), getuid(), getgid()};
     return real;
-}
-
-/* Whether these are credentials that only a privileged process may give; the machine's user is none. */
-static int wants_privilege(unsigned pid, unsigned uid, unsigned gid) {
-    struct process *own = &shared->processes[me];
-    return own->privileged && (pid != me || uid != own->uid || gid != own->gid);
 }
 
 /* Turns credentials into the script's. Of those that were cut the first bytes are there, and zeros behind them, which do:
@@ -68,8 +64,12 @@ static size_t put_rights(size_t from, const char *list) {
     return put_item(from, SCM_RIGHTS, numbers, count * sizeof(int));
 }
 
-/* Turns the numbers of a whole item of a plain buffer into the machine's. It answers 0 where it isn't tried. */
-static int put_real(const struct cmsghdr *head, unsigned char *bytes) {
+static int has_credentials(const struct cmsghdr *head) {
+    return head->cmsg_type == SCM_CREDENTIALS && head->cmsg_len == CMSG_LEN(sizeof(struct ucred));
+}
+
+/* Turns the numbers of a whole item of a plain buffer into the machine's. */
+static void put_real(const struct cmsghdr *head, unsigned char *bytes) {
     unsigned numbers[3];
     if (head->cmsg_type == SCM_RIGHTS) {
         for (size_t at = 0; at + sizeof(int) <= head->cmsg_len - sizeof *head; at += sizeof(int)) {
@@ -80,42 +80,61 @@ static int put_real(const struct cmsghdr *head, unsigned char *bytes) {
             memcpy(bytes + at, &number, sizeof number);
         }
     }
-    if (head->cmsg_type != SCM_CREDENTIALS || head->cmsg_len != CMSG_LEN(sizeof numbers)) return 1;
+    if (!has_credentials(head)) return;
     memcpy(numbers, bytes, sizeof numbers);
-    if (wants_privilege(numbers[0], numbers[1], numbers[2])) return not_tried("privilege");
     struct ucred real = real_credentials(numbers[0], numbers[1], numbers[2]);
     memcpy(bytes, &real, sizeof real);
-    return 1;
 }
 
-/* Bytes as the script gives them, but for the numbers in whole items. */
-static int put_plain(const char *hex, size_t *length) {
-    *length = bytes_in(hex, control.bytes);
-    for (size_t at = 0; at + sizeof(struct cmsghdr) <= *length;) {
+static void learn_item(const struct cmsghdr *head, unsigned char *bytes) {
+    unsigned numbers[3];
+    if (!has_credentials(head)) return;
+    memcpy(numbers, bytes, sizeof numbers);
+    user_of(numbers[1]);
+    group_of(numbers[2]);
+}
+
+/* Bytes as the script gives them, in which something is done with each whole item. It answers how many they are. */
+static size_t put_plain(const char *hex, void (*see)(const struct cmsghdr *head, unsigned char *bytes)) {
+    size_t length = bytes_in(hex, control.bytes);
+    for (size_t at = 0; at + sizeof(struct cmsghdr) <= length;) {
         struct cmsghdr head;
         memcpy(&head, control.bytes + at, sizeof head);
-        if (head.cmsg_len < sizeof head || head.cmsg_len > *length - at) return 1;
-        if (!put_real(&head, control.bytes + at + sizeof head)) return 0;
+        if (head.cmsg_len < sizeof head || head.cmsg_len > length - at) break;
+        see(&head, control.bytes + at + sizeof head);
         at += CMSG_ALIGN(head.cmsg_len);
     }
-    return 1;
+    return length;
 }
 
-int control_in(char *word, size_t *length) {
-    *length = 0;
-    if (word[0] == '-') return 1;
-    if (word[0] == 'x') return put_plain(word + 2, length);
+size_t control_in(char *word) {
+    size_t length = 0;
+    if (word[0] == '-') return 0;
+    if (word[0] == 'x') return put_plain(word + 2, put_real);
     for (char *item; (item = strsep(&word, "+"));) {
         unsigned pid, uid, gid;
         if (item[0] == 'r') {
-            *length = put_rights(*length, item + 2);
+            length = put_rights(length, item + 2);
         } else if (sscanf(item, "c:%u,%u,%u", &pid, &uid, &gid) == 3) {
-            if (wants_privilege(pid, uid, gid)) return not_tried("privilege");
             struct ucred real = real_credentials(pid, uid, gid);
-            *length = put_item(*length, SCM_CREDENTIALS, &real, sizeof real);
+            length = put_item(length, SCM_CREDENTIALS, &real, sizeof real);
         }
     }
-    return 1;
+    return length;
+}
+
+/* Has the users and groups that a message tells known by their numbers before it is sent. */
+void learn_credentials(const char *word) {
+    unsigned pid, uid, gid;
+    if (word[0] == 'x') {
+        put_plain(word + 2, learn_item);
+        return;
+    }
+    for (const char *item = word; (item = strstr(item, "c:")); item++) {
+        if (sscanf(item, "c:%u,%u,%u", &pid, &uid, &gid) != 3) continue;
+        user_of(uid);
+        group_of(gid);
+    }
 }
 
 static void say_rights(const struct cmsghdr *item) {

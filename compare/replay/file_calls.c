@@ -5,6 +5,7 @@
 #include <poll.h>
 #include <stdlib.h>
 #include <string.h>
+#include <sys/stat.h>
 #include <unistd.h>
 
 unsigned char data[MOST_BYTES + CHUNK];
@@ -19,32 +20,42 @@ void do_open(char **word) {
     say_count("fd", number);
 }
 
-/* An open of a counter: its descriptor came with the line, as many opens of one eventfd are one description. */
+/* An open of a counter: its descriptor came with the line, as many opens of one eventfd are one description, which goes
+ * both ways, and has the flags of the last. */
 void do_counter(char **word) {
-    if (mode_in(word[3]) != O_RDWR) {
-        if (passed >= 0) close(passed);
-        not_tried("a counter of one direction");
-        return;
-    }
-    if (passed >= 0 && fcntl(passed, F_SETFD, strchr(word[4], 'x') ? FD_CLOEXEC : 0) < 0) _exit(2);
+    if (passed >= 0 && (fcntl(passed, F_SETFL, open_flags_in(word[4]) & ~O_CLOEXEC) < 0 ||
+                        fcntl(passed, F_SETFD, strchr(word[4], 'x') ? FD_CLOEXEC : 0) < 0)) _exit(2);
     errno = EMFILE;
     say_count("fd", passed);
 }
 
+static int is_file(int number) {
+    struct stat told;
+    return fstat(number, &told) == 0 && S_ISREG(told.st_mode);
+}
+
 void do_read(char **word) {
+    int number = descriptor_in(word[2]), flags = make_read_nonblocking(number);
     size_t wanted = number_in(word[3]);
-    ssize_t count = read(descriptor_in(word[2]), data, wanted < MOST_BYTES ? wanted : MOST_BYTES);
+    ssize_t count = read(number, data, wanted < MOST_BYTES ? wanted : MOST_BYTES);
+    restore_flags(number, flags);
     if (count < 0) {
         say_error();
         return;
     }
     say("bytes ");
     say_bytes(data, (size_t)count);
+    mark_failing(number, count > 0 || (wanted > 0 && is_file(number)));
 }
 
 void do_write(char **word) {
-    say_count("n", write(descriptor_in(word[2]), data, bytes_in(word[3], data)));
-    learn_name(descriptor_in(word[2]));
+    int number = descriptor_in(word[2]), flags = make_nonblocking(number);
+    ssize_t count = write(number, data, bytes_in(word[3], data));
+    restore_flags(number, flags);
+    int has_reached = count > 0 || (count < 0 && errno != EBADF && errno != EPIPE);
+    say_count("n", count);
+    mark_failing(number, has_reached);
+    learn_name(number);
 }
 
 void do_lseek(char **word) {
@@ -72,13 +83,13 @@ static void say_names(const char *word, int set, const struct named *names, size
     }
 }
 
-/* FD_CLOEXEC is the descriptor's. Of the description's O_APPEND alone is told, as each is non-blocking here. */
+/* FD_CLOEXEC is the descriptor's, the others are the description's. */
 void do_getfl(char **word) {
-    static const struct named names[] = {{O_APPEND, "APPEND"}, {O_CLOEXEC, "CLOEXEC"}};
+    static const struct named names[] = {{O_APPEND, "APPEND"}, {O_NONBLOCK, "NONBLOCK"}, {O_CLOEXEC, "CLOEXEC"}};
     int number = descriptor_in(word[2]);
     int shared = fcntl(number, F_GETFL), own = shared < 0 ? shared : fcntl(number, F_GETFD);
     if (own < 0) say_error();
-    else say_names("flags", (shared & O_APPEND) | (own & FD_CLOEXEC ? O_CLOEXEC : 0), names, 2);
+    else say_names("flags", (shared & (O_APPEND | O_NONBLOCK)) | (own & FD_CLOEXEC ? O_CLOEXEC : 0), names, sizeof names / sizeof *names);
 }
 
 void do_flags(char **word) {

@@ -124,7 +124,7 @@ void tell_machine(void) {
     printf("pipe_pages %ld\n", bytes_of_pipe(ends[0]) / page);
     printf("peer_first %d\n", looks_for_peer_first());
     printf("users_apart %d\n", geteuid() == 0);
-    printf("own_users %d\n", geteuid() == 0 && make_user_space(user ? user : 1, MOST_USERS));
+    printf("own_users %d\n", shared->has_own_users);
     ssize_t longest = bytes_of_message();
     printf("message %zd\n", longest);
     tell_costs("cost", SOCK_DGRAM, LONGEST);

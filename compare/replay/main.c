@@ -200,7 +200,9 @@ int main(int count, char **words) {
     if (what == NULL || (geteuid() == 0 && user == 0 && strcmp(what, "--machine"))) return usage();
     if (what[0] != '-' || what[1] == 0) text = read_whole(what);
     raise_limits();
+    int has_spaces = geteuid() == 0 && strcmp(what, "--in-flight") && go_on_in_spaces(user ? user : 1, MOST_USERS);
     make_shared();
+    shared->has_own_users = has_spaces;
     shared->waits = waits;
     shared->first_user = user;
     catch_signals();

@@ -4,11 +4,13 @@
 
 void do_send(char **word) {
     struct address address = {.length = 0};
-    size_t length = 0;
     unsigned known = shared->alias_count;
-    int number = descriptor_in(word[2]), flags = message_flags_in(word[6]) | MSG_NOSIGNAL;
-    if (word[3][0] != '-' && !address_in(word[3], &address)) return;
-    if (!control_in(word[5], &length)) return;
+    int number = descriptor_in(word[2]), flags = message_flags_in(word[6]) | flag_of_a_send() | MSG_NOSIGNAL;
+    if (word[3][0] != '-' && !address_in(word[3], &address)) {
+        say_what_is_no_socket(number);
+        return;
+    }
+    size_t length = control_in(word[5]);
     struct iovec bytes = {data, bytes_in(word[4], data)};
     struct msghdr message = {.msg_iov = &bytes, .msg_iovlen = 1, .msg_namelen = address.length};
     if (address.length > 0) message.msg_name = &address;
@@ -32,12 +34,13 @@ static void say_message_flags(int flags) {
 
 void do_recv(char **word) {
     struct address from = {.length = 0};
+    int number = descriptor_in(word[2]), flags = message_flags_in(word[5]) | flag_of_a_receive(number);
     size_t wanted = number_in(word[3]), space = number_in(word[4]);
     struct iovec bytes = {data, wanted < sizeof data ? wanted : sizeof data};
     struct msghdr message = {.msg_iov = &bytes, .msg_iovlen = 1, .msg_name = &from, .msg_namelen = sizeof from.bytes};
     message.msg_control = control_bytes();
     message.msg_controllen = space < MOST_CONTROL ? space : MOST_CONTROL;
-    ssize_t count = recvmsg(descriptor_in(word[2]), &message, message_flags_in(word[5]));
+    ssize_t count = recvmsg(number, &message, flags);
     if (count < 0) {
         say_error();
         return;

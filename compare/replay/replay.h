@@ -32,14 +32,21 @@ struct alias {
     int is_used;
 };
 
+/* An object that fails at one of the calls that reach it: what tells it on this machine, and how many calls have. */
+struct failing {
+    unsigned long long device, file;
+    unsigned fails_at, reached;
+};
+
 /* What the children and their parent share: the processes with their real numbers, the script's users and groups by the
- * machine's from 0, and the names that autobind gave. */
+ * machine's from 0, the names that autobind gave, and objects that fail. */
 struct shared {
-    unsigned process_count, user_count, group_count, alias_count, first_user;
+    unsigned process_count, user_count, group_count, alias_count, failing_count, first_user;
     unsigned users[MOST_USERS], groups[MOST_USERS];
     struct process processes[MOST_PROCESSES + 1];
     pid_t pids[MOST_PROCESSES + 1];
     struct alias aliases[MOST_ALIASES];
+    struct failing failing[MOST_OBJECTS];
     int has_bound_digits, has_passed_socket, has_own_users, waits;
     unsigned char key[16];
 };
@@ -49,6 +56,7 @@ struct object {
     char kind;
     unsigned char *bytes;
     size_t length;
+    unsigned fails_at;
     int counter, watch, is_held, has_path, is_gone;
 };
 
@@ -118,6 +126,15 @@ size_t words_in(char *line, char **words);
 int is_number(const char *word);
 int is_hex(const char *word);
 
+/* waiting.c: calls that don't wait */
+int type_of(int number);
+void say_what_is_no_socket(int number);
+int flag_of_a_receive(int number);
+int flag_of_a_send(void);
+int make_nonblocking(int number);
+int make_read_nonblocking(int number);
+void restore_flags(int number, int flags);
+
 /* text.c: lines with text */
 char *plain_line(char *line);
 
@@ -131,9 +148,14 @@ void note_bound_name(const char *word);
 void forget_names(void);
 void check_no_name_is_left(void);
 
+/* failing.c: file objects that fail */
+void add_failing(const struct object *object);
+void mark_failing(int number, int has_reached);
+
 /* control.c: control buffers */
+void learn_credentials(const char *word);
 unsigned char *control_bytes(void);
-int control_in(char *word, size_t *length);
+size_t control_in(char *word);
 void say_credentials(const struct ucred *real);
 void say_items(struct msghdr *message);
 
@@ -207,14 +229,17 @@ int make_counter(unsigned value, int flags);
 int make_pipe(int *ends, int flags);
 int watch_references(int number, unsigned object);
 int is_referred_to(unsigned object);
+unsigned long long id_of_counter(int number);
 int is_name_bound(const char *beginning);
 int charged_to(int number);
 long bytes_of_pipe(int number);
 long most_backlog(void);
 
-/* linux_users.c: what is Linux's own of users */
-int make_user_space(unsigned first, unsigned count);
+/* linux_spaces.c: name spaces of users and processes */
+int go_on_in_spaces(unsigned first, unsigned count);
 int enter_user_space(void);
+
+/* linux_users.c: what is Linux's own of privileges */
 int set_privileges(int has_some);
 int has_privileges(void);
 

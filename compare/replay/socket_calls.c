@@ -27,7 +27,10 @@ void do_pair(char **word) {
 void do_bind(char **word) {
     struct address address;
     int number = descriptor_in(word[2]);
-    if (!address_in(word[3], &address)) return;
+    if (!address_in(word[3], &address)) {
+        say_what_is_no_socket(number);
+        return;
+    }
     note_bound_name(word[3]);
     say_done(bind(number, &address.head, address.length));
     learn_name(number);
@@ -35,29 +38,29 @@ void do_bind(char **word) {
 
 void do_listen(char **word) { say_done(listen(descriptor_in(word[2]), (int)strtol(word[3], NULL, 10))); }
 
-static int type_of(int number) {
-    int type = 0;
-    socklen_t length = sizeof type;
-    return getsockopt(number, SOL_SOCKET, SO_TYPE, &type, &length) == 0 ? type : 0;
-}
-
 /* The unnamed address is AF_UNSPEC to a datagram socket, whose association it ends. */
 void do_connect(char **word) {
     struct address address;
     int number = descriptor_in(word[2]);
     unsigned known = shared->alias_count;
-    if (!address_in(word[3], &address)) return;
+    if (!address_in(word[3], &address)) {
+        say_what_is_no_socket(number);
+        return;
+    }
     if (word[3][0] == 'u' && type_of(number) == SOCK_DGRAM) address.un.sun_family = AF_UNSPEC;
-    int answer = connect(number, &address.head, address.length);
+    int flags = make_nonblocking(number), answer = connect(number, &address.head, address.length);
     if (has_named_itself(number, known, answer) && address_in(word[3], &address)) {
         answer = connect(number, &address.head, address.length);
     }
+    restore_flags(number, flags);
     say_done(answer);
 }
 
 void do_accept(char **word) {
     struct address address = {.length = sizeof address.bytes};
-    int made = accept4(descriptor_in(word[2]), &address.head, &address.length, socket_flags_in(word[3]));
+    int number = descriptor_in(word[2]), flags = make_nonblocking(number);
+    int made = accept4(number, &address.head, &address.length, socket_flags_in(word[3]));
+    restore_flags(number, flags);
     say_count("accepted", with_append(made, word[3]));
     if (made < 0) return;
     say(" ");
@@ -69,6 +72,7 @@ void do_shut(char **word) {
     say_done(shutdown(descriptor_in(word[2]), mode == O_RDWR ? SHUT_RDWR : mode == O_RDONLY ? SHUT_RD : SHUT_WR));
 }
 
+/* `qlimit` is the layer's own: to Linux it is an option that there isn't. */
 static int option_in(const char *word) {
     switch (word[0]) {
     case 't': return SO_TYPE;
@@ -91,16 +95,14 @@ void do_getopt(char **word) {
     int option = option_in(word[3]), number = descriptor_in(word[2]), value = 0;
     void *place = option == SO_PEERCRED ? (void *)&credentials : &value;
     socklen_t length = option == SO_PEERCRED ? sizeof credentials : sizeof value;
-    if (option < 0) not_tried("qlimit");
-    else if (getsockopt(number, SOL_SOCKET, option, place, &length) < 0) say_error();
+    if (getsockopt(number, SOL_SOCKET, option, place, &length) < 0) say_error();
     else if (option == SO_PEERCRED) say_peer(&credentials);
     else say("opt %d", option == SO_ERROR && value == ECONNRESET ? LAYERS_ECONNRESET : value);
 }
 
 void do_setopt(char **word) {
     int option = option_in(word[3]), value = (int)number_in(word[4]);
-    if (option < 0) not_tried("qlimit");
-    else say_done(setsockopt(descriptor_in(word[2]), SOL_SOCKET, option, &value, sizeof value));
+    say_done(setsockopt(descriptor_in(word[2]), SOL_SOCKET, option, &value, sizeof value));
 }
 
 void do_name(char **word) {

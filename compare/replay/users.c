@@ -43,9 +43,9 @@ void learn_ids(const char *text) {
 }
 
 /* The machine's user for a script's. Where the run has no users of its own, this process's stands for its own, and another
- * for all others. */
+ * for all others. A message may tell the user 4294967295, which is no id, and a group of it: the folder's stands for that. */
 unsigned real_user(unsigned uid) {
-    if (uid == NO_ID || !shared->has_own_users) return uid == shared->processes[me].uid ? getuid() : getuid() ^ 1;
+    if (!shared->has_own_users) return uid == shared->processes[me].uid ? getuid() : getuid() ^ 1;
     for (unsigned i = 0; i < shared->user_count; i++) {
         if (shared->users[i] == uid) return i;
     }
@@ -53,8 +53,8 @@ unsigned real_user(unsigned uid) {
 }
 
 unsigned real_group(unsigned gid) {
-    if (gid == NO_ID || !shared->has_own_users) return gid == shared->processes[me].gid ? getgid() : getgid() ^ 1;
-    for (unsigned i = 1; i < shared->group_count; i++) {
+    if (!shared->has_own_users) return gid == shared->processes[me].gid ? getgid() : getgid() ^ 1;
+    for (unsigned i = 0; i < shared->group_count; i++) {
         if (shared->groups[i] == gid) return i;
     }
     return getgid() ^ 1;

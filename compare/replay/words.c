@@ -36,20 +36,17 @@ size_t name_in(const char *word, char *name) {
     return length;
 }
 
-/* Whether a call or a description doesn't wait: none does, but where the run is one of threads, and the letter isn't there. */
-static int is_at_once(const char *word, char letter) { return !shared->waits || strchr(word, letter); }
-
 int open_flags_in(const char *word) {
-    return (strchr(word, 'a') ? O_APPEND : 0) | (strchr(word, 'x') ? O_CLOEXEC : 0) | (is_at_once(word, 'n') ? O_NONBLOCK : 0);
+    return (strchr(word, 'a') ? O_APPEND : 0) | (strchr(word, 'x') ? O_CLOEXEC : 0) | (strchr(word, 'n') ? O_NONBLOCK : 0);
 }
 
 int socket_flags_in(const char *word) {
-    return (strchr(word, 'x') ? SOCK_CLOEXEC : 0) | (is_at_once(word, 'n') ? SOCK_NONBLOCK : 0);
+    return (strchr(word, 'x') ? SOCK_CLOEXEC : 0) | (strchr(word, 'n') ? SOCK_NONBLOCK : 0);
 }
 
 int message_flags_in(const char *word) {
     return (strchr(word, 'p') ? MSG_PEEK : 0) | (strchr(word, 't') ? MSG_TRUNC : 0) |
-           (strchr(word, 'x') ? MSG_CMSG_CLOEXEC : 0) | (is_at_once(word, 'd') ? MSG_DONTWAIT : 0);
+           (strchr(word, 'x') ? MSG_CMSG_CLOEXEC : 0) | (strchr(word, 'd') ? MSG_DONTWAIT : 0);
 }
 
 int mode_in(const char *word) { return word[0] && word[1] ? O_RDWR : word[0] == 'r' ? O_RDONLY : O_WRONLY; }

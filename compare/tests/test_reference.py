@@ -9,7 +9,7 @@ from comparing.lines import Difference, Line, first_difference
 from reference.machine import Machine, read
 from reference.rules import ALL_RULES, NO_RULES, Rule
 from reference.script import parse
-from reference.trace import trace
+from reference.trace import Run, trace
 
 PROC = "serial\nproc 1000 1000 0 16\n"
 # A rule, the calls of process 1 before, the call, the layer's answer by docs/calls.md, and Linux's by its manual pages and sources.
@@ -25,6 +25,14 @@ SWITCHES = [
      f"got 40000 {'61' * 40000} CTRUNC - -", f"got 36544 {'61' * 36544} CTRUNC - -"),
     (Rule.MESSAGES_IN_A_QUEUE, ["pair dgram -"], f"send 0 - {'61' * 65537} - -", "err EMSGSIZE", "n 65537"),
     (Rule.MESSAGES_IN_A_QUEUE, ["pair dgram -", *["send 0 - 61 - -"] * 16], "send 0 - 61 - -", "err EAGAIN", "n 1"),
+    (Rule.ORDER_OF_SEND, ["pair stream -"], "send 0 - 61 c:1,0,0+r:9 -", "err EBADF", "err EPERM"),
+    (Rule.ORDER_OF_SEND, ["socket seq -"], "send 0 - 61 r:9 -", "err EBADF", "err ENOTCONN"),
+    (Rule.CONTROL_THAT_IS_NONE, ["pair stream -"], "send 0 - 61 x:00 -", "err EINVAL", "n 1"),
+    (Rule.QUEUE_LIMIT, ["pair stream -"], "getopt 0 qlimit", "opt 65536", "err ENOPROTOOPT"),
+    (Rule.DATAGRAM_SOCKET_SHUT_FOR_READING, ["pair dgram -", "shut 0 r"], "recv 0 9 0 d", "got 0 - - - -", "err EAGAIN"),
+    (Rule.DATAGRAM_SOCKET_SHUT_FOR_READING, ["pair dgram n", "shut 0 r"], "recv 0 9 0 -", "got 0 - - - -", "err EAGAIN"),
+    (Rule.LONG_PATH, [], "open p:" + "l" * 256 + " r -", "err EINVAL", "err ENAMETOOLONG"),
+    (Rule.SENDER_NAMED_LATER, ["pair dgram -", "write 0 61", "bind 0 a:x"], "recv 1 9 0 -", "got 1 61 - - u", "got 1 61 - - a:x"),
     (Rule.LONG_WRITE_OF_A_COUNTER, ["eventfd 0 -"], "write 0 010000000000000000", "n 8", "err EINVAL"),
     (Rule.OFFSET_OF_A_COUNTER, ["eventfd 0 -"], "lseek 0 0 set", "err ESPIPE", "at 0"),
     (Rule.BIND_AGAIN, ["socket dgram -", "bind 0 a:x"], "bind 0 u", "err EINVAL", "ok"),
@@ -37,6 +45,31 @@ SWITCHES = [
     (Rule.RECORD_END, ["pair seq -", "write 0 61"], "recv 1 9 0 -", "got 1 61 EOR - -", "got 1 61 - - -"),
     (Rule.RIGHTS_WITHOUT_DATA, ["pair stream -"], "send 0 - - r:0 -", "err EINVAL", "n 0"),
     (Rule.SEND_FLAGS, ["pair stream -"], "send 0 - 61 - p", "err EINVAL", "n 1"),
+]
+PADDED = "x:" + "1400000000000000" + "01000000" + "01000000" + "00000000" + "00000000"  # a right, and padding behind it (cmsg(3))
+TOO_LONG = "x:" + "ff00000000000000" + "01000000" + "01000000" + "00000000"
+# A rule that a call is about, the calls before, the call, and what both answer, so that the rule isn't asked.
+ALIKE = [
+    (Rule.ORDER_OF_SEND, ["pair stream -"], "send 0 - 61 r:9+c:1,0,0 -", "err EBADF"),
+    (Rule.ORDER_OF_SEND, ["pair stream -"], "send 0 - 61 r:0+c:1,0,0 -", "err EPERM"),
+    (Rule.ORDER_OF_SEND, ["socket seq -"], "send 0 - 61 - -", "err ENOTCONN"),
+    (Rule.CONTROL_THAT_IS_NONE, ["pair stream -"], f"send 0 - 61 {PADDED} -", "n 1"),
+    (Rule.CONTROL_THAT_IS_NONE, ["pair stream -"], f"send 0 - 61 {TOO_LONG} -", "err EINVAL"),
+    (Rule.ROOM_OF_A_STREAM, ["pair stream -"], f"send 0 - {'61' * 65536} - -", "n 65536"),
+    (Rule.ROOM_OF_A_STREAM, ["pair stream -", f"send 0 - {'61' * 49153} - -"], "poll 0", "poll OUT"),
+    (Rule.MESSAGES_IN_A_QUEUE, ["pair seq -", *["send 0 - 61 - -"] * 15], "send 0 - 61 - -", "n 1"),
+    (Rule.MESSAGES_IN_A_QUEUE, ["pair seq -"], f"send 0 - {'61' * 65536} - -", "n 65536"),
+    (Rule.ROOM_OF_A_PIPE, ["pipe -", f"write 1 {'61' * 57344}"], "poll 1", "poll OUT"),
+    (Rule.ROOM_OF_A_PIPE, ["pipe -", f"write 1 {'61' * 65536}"], "write 1 61", "err EAGAIN"),
+    (Rule.FLAGS_OF_THE_REPLAY, ["eventfd 0 n", "dup 0", "flags 1 an"], "getfl 0", "flags APPEND|NONBLOCK"),
+    (Rule.DATAGRAM_SOCKET_SHUT_FOR_READING, ["pair dgram -", "shut 0 r"], "recv 0 9 0 -", "got 0 - - - -"),
+    (Rule.QUEUE_LIMIT, [], "getopt 0 qlimit", "err EBADF"),
+    (Rule.QUEUE_LIMIT, ["memfd -"], "setopt 0 qlimit 5", "err ENOTSOCK"),
+    (Rule.LONG_PATH, [], "open p:" + "l" * 107 + " r -", "err ENOENT"),
+    (Rule.ORDER_OF_OPEN, [], "open p:none r -", "err ENOENT"),
+    (Rule.LIMIT_OF_RIGHTS_IN_FLIGHT, ["pair dgram -"], "send 0 - 61 r:0 -", "n 1"),
+    (Rule.PRIVILEGE, ["pair dgram -"], "send 0 - 61 c:1,0,0 -", "err EPERM"),
+    (Rule.PATH_OF_NO_FILE, ["memfd -"], "bind 0 p:", "err ENOTSOCK"),
 ]
 # What both refuse alike, before all else (pipe2(2), eventfd(2), memfd_create(2)).
 REFUSED = ["pipe a", "pipe anx", "eventfd 0 a", "eventfd 5 ax", "memfd n", "memfd a", "memfd anx"]
@@ -55,6 +88,27 @@ class Switches(unittest.TestCase):
             with self.subTest(f"{rule.value}: {call[:40]}"):
                 self.assertEqual(answers([*before, call], NO_RULES)[-1], ours)
                 self.assertEqual(answers([*before, call], frozenset({rule}))[-1], linux)
+
+    def test_a_rule_is_not_asked_where_both_agree(self):
+        for rule, before, call, reply in ALIKE:
+            with self.subTest(f"{rule.value}: {call[:40]}"):
+                run = Run(parse(PROC + "".join(f"1 {line}\n" for line in [*before, call])), ALL_RULES, Machine())
+                run.make_all()
+                self.assertEqual(run.lines[len(before)].reply, reply)
+                self.assertEqual(answers([*before, call], NO_RULES)[-1], reply)
+                self.assertNotIn(rule, run.kernel.used)
+
+    def test_the_call_at_which_an_object_fails_is_marked_on_linux(self):
+        text = "object p:f fail 2 mem 6162\nproc 1 1 0 9\n1 open p:f r -\n1 read 0 0\n1 read 0 1\n1 read 0 1\n1 read 0 1\n"
+        self.assertEqual([line.reply for line in trace(parse(text), NO_RULES, Machine())[1:5]], ["bytes -", "bytes 61", "err EIO", "bytes 62"])
+        self.assertEqual([line.reply for line in trace(parse(text), ALL_RULES, Machine())[1:5]],
+                         ["bytes -", "bytes 61", "bytes 62 (fails)", "bytes -"])
+
+    def test_an_ordinary_users_replay_gives_its_own_credentials(self):
+        text = "proc 5 6 1 9\n1 pair seq -\n1 setopt 1 passcred 1\n1 send 0 - 61 c:9,7,8 -\n1 recv 1 9 64 -\n"
+        replies = [trace(parse(text), ALL_RULES, Machine(own_users=own))[2:4] for own in (0, 1)]
+        self.assertEqual([line.reply for line in replies[0]], ["n 1", "got 1 61 - c:1,5,6 -"])
+        self.assertEqual([line.reply for line in replies[1]], ["err ESRCH", "err EAGAIN"])
 
     def test_flags_that_a_call_does_not_take_are_refused_before_all_else(self):
         full = [f"dup2 0 {number}" for number in range(1, 16)]
