@@ -106,12 +106,18 @@ class Walk:
         place = 0
         while place < len(self.blocks):
             if place % BETWEEN == 0 and (not self.kept or self.kept[-1][0] < place):
-                self.kept = [*self.kept[1 - MOST_KEPT:], (place, self.scout.keep())]
+                self.keep(place)
             differing = self.unsettled(self.blocks[place])
             if differing and self.is_over():
                 self.order.out_of_time = True
                 return
             place = self.mended(place, differing) if differing else place + 1
+
+    def keep(self, place: int) -> None:
+        """Keeps the state before a block, and lets the oldest go where there are as many as may be."""
+        state = self.scout.keep()
+        if state is not None:
+            self.kept = [*self.kept[1 - MOST_KEPT:], (place, state)]
 
     def unsettled(self, block: Block):
         return [step for step in self.scout.differing(block) if step not in self.order.settled]

@@ -20,8 +20,8 @@ if TYPE_CHECKING:
     from saying.model import Block, Step
     from saying.world import World
 
-# A state is kept as what leads to what, through all sockets and messages.
-DEEPEST = 20000
+# A state is kept as what leads to what, through all sockets and messages: of a chain above this it isn't.
+DEEPEST = 4000
 
 
 class Scout:
@@ -38,9 +38,12 @@ class Scout:
         self.made = 0
         sys.setrecursionlimit(max(DEEPEST, sys.getrecursionlimit()))
 
-    def keep(self):
-        """The state now."""
-        return pickle.dumps((self.kernel, {number: seat.key for number, seat in self.by_number.items()}), pickle.HIGHEST_PROTOCOL)
+    def keep(self) -> bytes | None:
+        """The state now, or None where it can't be kept."""
+        try:
+            return pickle.dumps((self.kernel, {number: seat.key for number, seat in self.by_number.items()}), pickle.HIGHEST_PROTOCOL)
+        except RecursionError:
+            return None
 
     def take_up(self, kept: bytes) -> None:
         """The state is again what it was then."""

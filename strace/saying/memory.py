@@ -37,6 +37,11 @@ def at_offset(world: World, block: Block, process: Process, number: int, descrip
         world.step(block, process.seat, words, told, description)
 
 
+def writes(number: int, data: bytes, count: int) -> list[tuple[str, str]]:
+    """Writes of these bytes, as long as a line may be, and what each answers: in all so many."""
+    return [(f"write {number} {hexadecimal(data[at:at + WHOLE])}", f"n {min(WHOLE, count - at)}") for at in range(0, max(1, len(data)), WHOLE)]
+
+
 @says("pread64", "preadv", "preadv2")
 def say_pread(world: World, block: Block, process: Process, args: Arguments, result: Result) -> None:
     slot = memory_of(world, block, process, args[0], result)
@@ -65,8 +70,7 @@ def say_pwrite(world: World, block: Block, process: Process, args: Arguments, re
     start = thing.size if description.append else description.offset if is_moved else offset
     if not may_write(world, block, slot, start + len(data), result):
         return
-    lines = [(f"write {number} {hexadecimal(data[at:at + WHOLE])}", f"n {min(WHOLE, result.number - at)}")
-             for at in range(0, max(1, len(data)), WHOLE)]
+    lines = writes(number, data, result.number)
     thing.size = max(thing.size, start + len(data)) if data else thing.size
     if is_moved:
         description.offset = start + len(data)

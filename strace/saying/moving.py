@@ -10,7 +10,7 @@ from reading.words import Change, after, number_of
 from . import doubts
 from .contents import blur, data_of, sayable, taken
 from .limits import may_write
-from .memory import at_offset
+from .memory import at_offset, writes
 from .model import Kind
 from .receiving import Received, arrive
 from .sending import end_of_write, put
@@ -26,6 +26,8 @@ if TYPE_CHECKING:
 # The places of source, its offset, target, its offset and length among the arguments.
 PLACES = {"splice": (0, 1, 2, 3, 4), "copy_file_range": (0, 1, 2, 3, 4), "tee": (0, None, 1, None, 2), "sendfile": (1, 2, 0, None, 3),
           "sendfile64": (1, 2, 0, None, 3)}
+# Errors that only a source of the layer can have.
+OF_A_SOURCE = ("EAGAIN", "ECONNRESET", "ENOTCONN")
 SAID = "the bytes that were moved aren't in the log: zeros"
 
 
@@ -61,10 +63,10 @@ def refused(world: World, block: Block, process: Process, source: Any, target: A
     name = block.call.name
     if result.error == "EPIPE" and is_of_the_layer(process, target):
         give(world, block, process, target, None, b"\0", result)
-    elif result.error == "EAGAIN" and not is_of_the_layer(process, target):
+    elif result.error in OF_A_SOURCE and not is_of_the_layer(process, target):
         slot = sayable(world, block, process, source, name)
         if slot is not None:
-            world.step(block, process.seat, f"read {number_of(source)} 1", "err EAGAIN", slot.description)
+            world.step(block, process.seat, f"read {number_of(source)} 1", f"err {result.error}", slot.description)
     else:
         block.leave_out(f"{name} that failed")
 
@@ -105,7 +107,7 @@ def give(world: World, block: Block, process: Process, value: Any, offset: int |
         return
     if offset is not None and description.kind is Kind.MEMORY:
         description.thing.size = max(description.thing.size, offset + len(data))
-        at_offset(world, block, process, number, description, offset, [(f"write {number} {data.hex()}", f"n {len(data)}")])
+        at_offset(world, block, process, number, description, offset, writes(number, data, len(data)))
     else:
         put(world, block, process, number, description, data, result, lambda piece: f"write {number} {piece}")
     if not result.error:

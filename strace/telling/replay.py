@@ -99,7 +99,7 @@ def text_of(report: dict[str, Any], every: bool = False) -> str:
     lines += doubts_of(report["notes"])
     lines.append(f"replies: {replies['compared']} compared, {replies['agree']} agree, {replies['under a rule']} under a rule, "
                  f"{replies['differ']} differ; {report['moved']} calls that overlap were moved")
-    if report["out of time"]:
+    if report["out of time"] or replies["not decided"]:
         lines.append(f"  the search for an order of the calls that overlap ended early: {replies['not decided']} further replies aren't "
                      "decided (see --seconds)")
     lines += reasons(replies["rules"], "rules of compare/differences.txt")

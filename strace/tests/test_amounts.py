@@ -95,6 +95,10 @@ class Amounts(unittest.TestCase):
         for count, differ in ((3, 0), (2, 0), (4, 1)):
             status, report = replayed(lines(*moved, f'read(1, "{"a" * count}", {count}) = {count}'))
             self.assertEqual(report["replies"]["differ"], differ)
+        # More of them than a line may have go in pieces.
+        copied = "copy_file_range(0</f>, [0], 1</memfd:m>, [7], 99999, 0) = 99999"
+        status, report = replayed(lines(moved[0], 'memfd_create("m", 0) = 1</memfd:m>', copied, "lseek(1, 0, SEEK_END) = 100006"))
+        self.assertEqual((status, report["replies"]["differ"]), (0, 0))
         # What comes behind them is compared by its bytes.
         for text, differ in (("abcd", 0), ("abce", 0)):
             status, report = replayed(lines(*moved, write(2, "d"), f'read(1, "{text}", 4) = 4'))

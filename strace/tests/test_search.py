@@ -11,6 +11,7 @@ import here  # noqa: F401
 import common
 from judging.order import Search
 from judging.run import Runner
+from telling.replay import text_of
 from test_replay import HEAD, RULES, UXRUN, replayed
 
 PAIR = "9 1.0 socketpair(AF_UNIX, SOCK_STREAM, 0, [{0}<UNIX-STREAM:[7{0}->8{0}]>, {1}<UNIX-STREAM:[8{0}->7{0}]>]) = 0\n"
@@ -99,6 +100,7 @@ class Reordered(unittest.TestCase):
                 status, report = replayed(log)
                 self.assertEqual((status, report["replies"]["differ"], report["replies"]["not decided"], report["out of time"]),
                                  (1, 1, 1, False))
+                self.assertIn("ended early: 1 further replies aren't decided", text_of(report))
 
 
 if __name__ == "__main__":
