@@ -1,20 +1,28 @@
 """What the programs share: their arguments, a log that is read and said, and faults in one line."""
+from __future__ import annotations
+
 import argparse
 import gc
 import sys
+from typing import TYPE_CHECKING, Any, Callable
 
+import paths  # noqa: F401
 from judging.order import Search
 from judging.rules import read_rules
 from judging.run import Fault, Runner
 from reading.calls import MOST_BYTES, read_log
 from reading.head import Inherited
 from reading.options import advice_on, has_numbers_for_names
-from saying.world import World
+from saying.world import Defect, World
+
+if TYPE_CHECKING:
+    from reading.calls import Log
+    from argparse import Namespace
 
 MOST_PASSES = 3
 
 
-def parser(description, **options):
+def parser(description: str | None, **options: Any):
     """The arguments that all programs which read a log have."""
     found = argparse.ArgumentParser(description=description, **options)
     found.add_argument("log", metavar="LOG", help="a log of strace -f, best taken by strace/record")
@@ -26,7 +34,7 @@ def parser(description, **options):
     return found
 
 
-def load(path, most=MOST_BYTES):
+def load(path: str, most: int = MOST_BYTES):
     """The log, or a fault that says in one line what is wrong."""
     try:
         log = read_log(path, most)
@@ -44,7 +52,7 @@ def load(path, most=MOST_BYTES):
     return log
 
 
-def say(log):
+def say(log: Log):
     """The log said in a script's words.
 
     What a first program had open, but the log doesn't tell, and what peers outside of the log sent, is found by further passes."""
@@ -57,7 +65,7 @@ def say(log):
         world = None
         gc.collect()
         world = World(log, inherited, learnt).run()
-        wanted = {number: note for (_, number), note in world.missing.items() if number < 4096}
+        wanted = {number: note for (_, number), note in world.gaps.missing.items() if number < 4096}
         known = {one.number for one in inherited}
         new = [Inherited(number, False, note) for number, note in wanted.items() if number not in known]
         if (log.head.recorded or not new) and (learnt is not None or not world.outside.count):
@@ -68,14 +76,14 @@ def say(log):
     return world
 
 
-def replayed(options, world):
+def replayed(options: Any, world: World):
     """The order in which the replies agree longest, with its verdicts; and what ran the scripts."""
     runner = Runner(options.uxrun)
     order = Search(world, runner, read_rules(), options.seconds).run()
     return order, runner
 
 
-def main(program, run, arguments):
+def main(program: str, run: Callable[[Namespace], int], arguments: Namespace):
     """Runs a program; a fault is told in one line, and no trace of Python is shown."""
     # What a log says is kept until the end: looking for garbage would find none, at up to a third of the time.
     gc.disable()
@@ -87,6 +95,8 @@ def main(program, run, arguments):
         print(f"{program}: {fault.filename or 'input or output'}: {fault.strerror}", file=sys.stderr)
     except (Fault, ValueError) as fault:
         print(f"{program}: {fault}", file=sys.stderr)
+    except Defect as defect:
+        print(f"{program}: a mistake of this program, please tell it: {defect}", file=sys.stderr)
     except MemoryError:
         print(f"{program}: the log needs more memory than there is: record a shorter run", file=sys.stderr)
     except KeyboardInterrupt:

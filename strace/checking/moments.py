@@ -1,16 +1,27 @@
 """Compares the audit with /proc at quiet moments: the same processes, numbers, and files or sockets."""
+from __future__ import annotations
+
 import re
 from bisect import bisect_right
-from typing import Any
+from typing import TYPE_CHECKING, Any
 
 from judging.holdings import calls_up_to, holdings
 from saying.waiting import WAITS
 
+if TYPE_CHECKING:
+    from judging.order import Order
+    from judging.run import Runner
+    from reading.calls import Log
+    from saying.model import Description
+    from saying.world import World
+
+# A line of a log, and by process and number what /proc said then.
+Moment = tuple[int, dict[int, dict[int, str]]]
 MARGIN = 0.001
 MOST_TOLD = 5
 
 
-def quiet_moments(log, samples, most):
+def quiet_moments(log: Log, samples: list[dict[str, Any]], most: int):
     """Samples during which the log has no call, with the last line before them; spread over the run, each with
     other calls before it."""
     busy = busy_times(log)
@@ -30,7 +41,7 @@ def quiet_moments(log, samples, most):
     return [quiet[place * (len(quiet) - 1) // (most - 1)] for place in range(most)]
 
 
-def busy_times(log):
+def busy_times(log: Log):
     """The stretches of time in which a call that may change a table runs, joined where they overlap."""
     times = [(call.time, call.ended) for call in log.calls if call.name not in WAITS and None not in (call.time, call.ended)]
     times += [(call.ended, call.ended) for call in log.calls if call.name in WAITS and call.ended is not None]
@@ -44,7 +55,7 @@ def busy_times(log):
     return joined
 
 
-def compare(world, order, runner, moments):
+def compare(world: World, order: Order, runner: Runner, moments: list[Moment]):
     """How many descriptors were the same, of how many the log doesn't tell where they lead, and which were others."""
     report: dict[str, Any] = {"moments": len(moments), "same": 0, "not told": 0, "different": 0, "examples": []}
     for line, tables in moments:
@@ -52,7 +63,7 @@ def compare(world, order, runner, moments):
         ours = {(one.process.pid, one.number): one.description for one in held}
         theirs = {(process, number): target for process, table in tables.items() for number, target in table.items()}
         for key in sorted(set(ours) | set(theirs)):
-            verdict = same(ours.get(key), theirs.get(key)) if key in ours and key in theirs else "different"
+            verdict = same(ours[key], theirs[key]) if key in ours and key in theirs else "different"
             report[verdict] += 1
             if verdict == "different" and len(report["examples"]) < MOST_TOLD:
                 mine = ours[key].inode if ours.get(key) else "held" if key in ours else "nothing"
@@ -60,7 +71,7 @@ def compare(world, order, runner, moments):
     return report
 
 
-def same(description, target):
+def same(description: Description | None, target: str) -> str:
     """Whether a description is what /proc says: `same`, `different`, or `not told`."""
     if description is None or not description.inode:
         return "not told"
@@ -72,7 +83,7 @@ def same(description, target):
     return "different"
 
 
-def plain(text):
+def plain(text: str):
     """A target without what strace and /proc add each in its own way."""
     text = re.sub(r"\\(x[0-9a-f]{2}|[0-7]{1,3})", lambda found: chr(int(found[1].lstrip("x"), 16 if found[1][0] == "x" else 8)), text)
     return text.removesuffix(" (deleted)")

@@ -1,12 +1,18 @@
 """Changes one thing in a log at a time, as a kernel or a tracer that is wrong would, and sees whether a replay notices it."""
+from __future__ import annotations
+
 import re
 import tempfile
 from dataclasses import dataclass, field
+from typing import TYPE_CHECKING
 
 import common
 from judging.order import Search
 from judging.rules import read_rules
 from telling.replay import report_of
+
+if TYPE_CHECKING:
+    from judging.run import Runner
 
 RESULT = r"\) = "
 NEW = (r"(?:socket|accept4?|open|openat|creat|dup|eventfd2?|epoll_create1?|memfd_create|timerfd_create|signalfd4|inotify_init1?)\(.*\) = |"
@@ -19,11 +25,11 @@ CHANGES_SOMETHING = (r"(?:close|dup2|dup3|bind|listen|connect|write|sendto|sendm
 ERRORS = {"EAGAIN": "ECONNRESET", "ENOENT": "ECONNREFUSED", "ECONNREFUSED": "ENOENT", "EPIPE": "ENOTCONN", "EBADF": "EINVAL"}
 
 
-def plus(step):
+def plus(step: int):
     return lambda found: str(max(0, int(found[0]) + step))
 
 
-def bits(mask):
+def bits(mask: int):
     return lambda found: hex(int(found[0], 0) ^ mask)
 
 
@@ -58,7 +64,7 @@ class Tally:
     missed: list = field(default_factory=list)
 
 
-def places(text, most):
+def places(text: str, most: int):
     """Changes of a log: for each kind some, spread over it, each as the kind's name, the line's number and the new line."""
     lines = text.split("\n")
     for name, pattern, changes in KINDS:
@@ -71,7 +77,7 @@ def places(text, most):
             yield name, number, lines[number][:match.start("x")] + new + lines[number][match.end("x"):]
 
 
-def judged(text, runner, seconds):
+def judged(text: str, runner: Runner, seconds: float):
     """What a replay tells of a log: its differences, and what else can't be so. None where it isn't read as a log."""
     with tempfile.NamedTemporaryFile("w", encoding="latin-1", suffix=".log") as file:
         file.write(text)
@@ -87,7 +93,7 @@ def judged(text, runner, seconds):
             (report["notes"], report["log"]["unreadable"], report["unknown calls"]))
 
 
-def tally(text, runner, most, seconds, found):
+def tally(text: str, runner: Runner, most: int, seconds: float, found: dict[str, Tally]) -> None:
     """Makes so many changes of each kind in a log, one at a time, and adds to the tallies what became of them."""
     base = judged(text, runner, seconds)
     lines = text.split("\n")
@@ -103,7 +109,7 @@ def tally(text, runner, most, seconds, found):
             one.missed.append(new or f"without: {lines[number]}")
 
 
-def table_of(found):
+def table_of(found: dict[str, Tally]):
     """The tallies as lines."""
     lines = [f"{'':30s} made  differ  noted  nothing"]
     order = [name for name, *_ in KINDS if name in found]

@@ -1,4 +1,6 @@
 """Records a program and reads /proc beside it: which process has which descriptor, some forty times a second."""
+from __future__ import annotations
+
 import json
 import os
 import signal
@@ -7,12 +9,16 @@ import sys
 import tempfile
 import time
 from pathlib import Path
+from typing import TYPE_CHECKING
+
+if TYPE_CHECKING:
+    from reading.programs import Program
 
 PAUSE = 0.015
 LONGEST_RUN = 60
 
 
-def traced_by(tracer):
+def traced_by(tracer: int):
     """The processes that strace follows, by /proc: who left its parent is one of them still."""
     found = []
     for name in os.listdir("/proc"):
@@ -26,7 +32,7 @@ def traced_by(tracer):
     return found
 
 
-def descriptors_of(process):
+def descriptors_of(process: int):
     """The descriptors of a process with what they lead to, or None where it ended meanwhile."""
     found = {}
     try:
@@ -40,13 +46,13 @@ def descriptors_of(process):
     return found
 
 
-def sample(tracer):
+def sample(tracer: int):
     begin = time.time()
     tables = {process: descriptors_of(process) for process in traced_by(tracer)}
     return {"begin": begin, "end": time.time(), "tables": {key: value for key, value in tables.items() if value is not None}}
 
 
-def record_with_samples(program, folder, record):
+def record_with_samples(program: Program, folder: Path, record: Path):
     """The log of a program and what /proc said meanwhile; logs that are there already aren't made again."""
     log, kept = folder / f"{program.name}.log", folder / f"{program.name}.proc"
     if log.is_file() and kept.is_file():
@@ -66,7 +72,7 @@ def record_with_samples(program, folder, record):
     return log, load_samples(kept)
 
 
-def watch(process, pid_file):
+def watch(process: subprocess.Popen, pid_file: Path):
     samples, deadline = [], time.time() + LONGEST_RUN
     while process.poll() is None:
         if pid_file.is_file() and pid_file.read_text().strip():
@@ -78,7 +84,7 @@ def watch(process, pid_file):
     return samples
 
 
-def load_samples(path):
+def load_samples(path: Path):
     samples = json.loads(path.read_text("ascii"))
     for one in samples:
         one["tables"] = {int(process): {int(number): target for number, target in table.items()}

@@ -1,11 +1,21 @@
 """Lays the replies of a script beside the kernel's, reply by reply."""
+from __future__ import annotations
+
 import re
 from dataclasses import dataclass
 from enum import Enum
 from sys import intern
+from typing import TYPE_CHECKING, Any
 
 from saying.script import numbered
 from .rules import Case, rule_of
+
+if TYPE_CHECKING:
+    from .rules import Rule
+    from .run import Trace
+    from saying.model import Seat, Step
+    from saying.script import Script
+    from saying.world import World
 
 READABLE = {"IN", "HUP", "ERR", "RDHUP"}
 WRITABLE = {"OUT", "ERR"}
@@ -25,7 +35,7 @@ class Outcome(Enum):
 @dataclass(slots=True)
 class Verdict:
     """One reply of the script beside the kernel's."""
-    step: object
+    step: Any
     call: str
     ours: str
     kernel: str
@@ -33,25 +43,37 @@ class Verdict:
     rule: str = ""
     parts: bool = False
 
+    def is_wrong(self):
+        """Whether another order is looked for: it differs, or its rule says that the states part."""
+        return self.outcome is Outcome.DIFFERS or self.parts
+
 
 class Judge:
     """Compares replies. Where strace cut strings short, contents are compared by their length."""
 
-    def __init__(self, world, rules):
+    def __init__(self, world: World, rules: list[Rule]) -> None:
         self.rules = rules
-        self.by_length = world.cut_texts > 0
-        self.seats = {seat.key: seat for seat in world.seats}
+        self.by_length = world.gaps.cut_texts > 0
+        self.seats = {seat.key: seat for seat in world.people.seats}
 
-    def judge(self, script, trace):
+    def judge(self, script: Script, trace: Trace):
         """The verdicts on a script's replies, as far as the trace has them."""
-        firsts = {str(seat.number): str(seat.process.first_seat.number) for seat in self.seats.values()}
-        verdicts = []
-        for step, line, reply in zip(script.steps, script.lines, trace.replies):
-            call = intern(line.split(" ", 1)[1])
-            verdicts.append(self.verdict(step, call, PERSON.sub(lambda found: found[1] + firsts.get(found[2], found[2]), reply)))
-        return verdicts
+        by_number = {seat.number: seat for seat in self.seats.values()}
+        return [self.verdict(step, intern(line.split(" ", 1)[1]), self.by_first_seats(reply, by_number))
+                for step, line, reply in zip(script.steps, script.lines, trace.replies)]
 
-    def verdict(self, step, call, ours):
+    @staticmethod
+    def by_first_seats(reply: str, by_number: dict[int, Seat]):
+        """A reply in which a process is told by the first number that it had."""
+        if "c:" not in reply and not reply.startswith("cred "):
+            return reply
+
+        def first(found: re.Match[str]):
+            seat = by_number.get(int(found[2]))
+            return found[1] + (str(seat.process.first_seat.number) if seat is not None else found[2])
+        return PERSON.sub(first, reply)
+
+    def verdict(self, step: Step, call: str, ours: str):
         if step.expect is None:
             return Verdict(step, call, ours, "", Outcome.NOT_COMPARED)
         kernel = numbered(step.expect, self.seats)
@@ -67,7 +89,7 @@ class Judge:
         return Verdict(step, call, ours, kernel, Outcome.RULE, rule.name, rule.parts)
 
 
-def with_unasked(kernel, ours, asked):
+def with_unasked(kernel: str, ours: str, asked: frozenset[str]):
     """The kernel's conditions of a poll, and of ours those that the program didn't ask for; a select's as a poll's."""
     if not ours.startswith("poll "):
         return kernel
@@ -81,28 +103,32 @@ def with_unasked(kernel, ours, asked):
     return told(result)
 
 
-def told(conditions):
+def told(conditions: set[str]):
     return "poll " + ("|".join(bit for bit in ORDER if bit in conditions) or "-")
 
 
-def filled(kernel, ours, by_length):
-    """The kernel's answer, in which what the log doesn't have is taken from ours."""
+def filled(kernel: str, ours: str, by_length: bool):
+    """The kernel's answer, in which what the log doesn't have is taken from ours: `?`, and of `*5` which five bytes."""
     mine, theirs = ours.split(" "), kernel.split(" ")
     if len(mine) != len(theirs):
         return kernel
     for place, word in enumerate(theirs):
-        if word == "?" or "?" in word and like(word, mine[place]):
+        if word == "?" or "?" in word and like(word, mine[place]) or word == f"*{bytes_in(mine[place])}":
             theirs[place] = mine[place]
         elif by_length and place == CONTENTS.get(theirs[0]) and len(word) == len(mine[place]):
             theirs[place] = mine[place]
     return " ".join(theirs)
 
 
-def like(pattern, word):
+def bytes_in(word: str):
+    """How many bytes a word of hexadecimal digits spells."""
+    return 0 if word == "-" else len(word) // 2
+
+
+def like(pattern: str, word: str) -> bool:
     return re.fullmatch(re.escape(pattern).replace(r"\?", r"[^,+ ]+"), word) is not None
 
 
-def first_difference(verdicts, settled=()):
-    """The place of the first difference that isn't settled, or None. One whose rule says that the states part counts."""
-    return next((place for place, verdict in enumerate(verdicts)
-                 if (verdict.outcome is Outcome.DIFFERS or verdict.parts) and verdict.step not in settled), None)
+def first_difference(verdicts: list[Verdict]):
+    """The place of the first reply for which another order is looked for, or None."""
+    return next((place for place, verdict in enumerate(verdicts) if verdict.is_wrong()), None)

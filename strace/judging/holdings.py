@@ -1,9 +1,17 @@
 """Tells uxrun's audit in the words of the log: who holds which descriptor, and through whom it came."""
+from __future__ import annotations
+
 from dataclasses import dataclass, field
-from typing import Any
+from typing import TYPE_CHECKING, Any
 
 from saying.model import Role
 from saying.outside import LABEL
+
+if TYPE_CHECKING:
+    from .run import Runner
+    from saying.model import Description, Step
+    from saying.script import Script
+    from saying.world import World
 
 
 @dataclass
@@ -17,15 +25,15 @@ class Holding:
     unknown: str = ""
     from_start: bool = False
 
-    def text(self):
+    def text(self) -> str:
         what = f" (not known: {self.unknown})" if self.unknown else ""
         return f"{self.process.label()} {self.number}: {', '.join(self.chain)}{what}"
 
 
-def holdings(world, script, runner, calls):
+def holdings(world: World, script: Script, runner: Runner, calls: int):
     """The audit after so many calls of a script, by rising process and number."""
     trace = runner.run(script.text(calls), audit=calls)
-    seats = {seat.number: seat for seat in world.seats}
+    seats = {seat.number: seat for seat in world.people.seats}
     found = []
     for held in trace.held:
         seat = seats.get(held.process)
@@ -37,7 +45,7 @@ def holdings(world, script, runner, calls):
     return found, trace.fault
 
 
-def tell_chain(script, links):
+def tell_chain(script: Script, links: list[list[str]]):
     """The description that a chain begins with, and each link in words."""
     description, words = None, []
     for link in links:
@@ -55,25 +63,25 @@ def tell_chain(script, links):
     return description, words
 
 
-def at_line(step):
+def at_line(step: Step) -> str:
     call = step.block.call
     return f" (line {call.begin})" if call is not None else ""
 
 
-def tell_made(step, description):
+def tell_made(step: Step, description: Description | None) -> str:
     what = description.what if description else "made"
     if step.role is Role.START:
         return f"open from the start, {what}"
     return f"{what} by {step.block.program}{at_line(step)}"
 
 
-def tell_copy(step, number):
+def tell_copy(step: Step, number: int):
     if step.role is not Role.CALL:
         return []
     return [f"copied as {number} by {step.block.call.name}{at_line(step)}"]
 
 
-def tell_got(step, sent, number):
+def tell_got(step: Step, sent: Step, number: int) -> str:
     if step.role is Role.HAND_OVER:
         return f"kept over {step.block.call.name}{at_line(step)}" if step.block.call is not None else "kept"
     socket = sent.words.split(" ")[1]
@@ -81,7 +89,7 @@ def tell_got(step, sent, number):
             f"and received by {step.block.program} as {number}{at_line(step)}")
 
 
-def calls_up_to(script, line):
+def calls_up_to(script: Script, line: float):
     """How many calls of a script stand before this line of the log, or at it."""
     count = 0
     for place, step in enumerate(script.steps, 1):

@@ -1,4 +1,6 @@
 """Reads strace/rules.txt: how a log shows where this layer answers otherwise than Linux. Nothing else here knows its form."""
+from __future__ import annotations
+
 import re
 from dataclasses import dataclass, field
 from pathlib import Path
@@ -22,7 +24,7 @@ class Rule:
     parts: bool = False
 
 
-def read_rules(path=RULES):
+def read_rules(path: Path | str = RULES):
     """The rules in their order; an OSError or ValueError where the file isn't one of rules."""
     rules = []
     for line in Path(path).read_text("utf-8").splitlines():
@@ -61,12 +63,12 @@ class Case:
     other_name: str | None = None
 
 
-def rule_of(rules, case):
+def rule_of(rules: list[Rule], case: Case):
     """The first rule that a difference meets, or None."""
     return next((rule for rule in rules if meets(rule, case)), None)
 
 
-def meets(rule, case):
+def meets(rule: Rule, case: Case) -> bool:
     texts = {"on": case.on, "call": case.call, "ours": case.ours, "linux": case.linux}
     if not all(pattern.fullmatch(texts[key]) for key, pattern in rule.patterns.items()):
         return False
@@ -79,17 +81,17 @@ def meets(rule, case):
     return not rule.unlike or word_at(case.ours, rule.unlike) != word_at(case.linux, rule.unlike)
 
 
-def is_name_of_other(name, case):
+def is_name_of_other(name: str, case: Case) -> bool:
     """Whether a name that Linux told is the one that the other socket has, by the log; one that autobind gave may be any."""
     return name == case.other_name or "autobound" in case.other and GIVEN_BY_AUTOBIND.fullmatch(name) is not None
 
 
-def word_at(text, place):
+def word_at(text: str, place: int):
     words = text.split(" ")
     return words[place - 1] if place <= len(words) else ""
 
 
-def differ_in(places, ours, linux):
+def differ_in(places: str, ours: str, linux: str) -> bool:
     """Whether two answers differ in the words of these numbers alone, of flags in these alone, or in these conditions of a poll."""
     if places[:1].isupper():
         left, right = conditions(ours), conditions(linux)
@@ -101,10 +103,10 @@ def differ_in(places, ours, linux):
         for place, (one, other) in enumerate(zip(mine, theirs), 1))
 
 
-def only_flags(flags, one, other):
+def only_flags(flags: str, one: str, other: str) -> bool:
     """Whether two words of flags differ in these alone; where none are given in any."""
     return not flags or set(one.split("|")) ^ set(other.split("|")) <= {"-", *flags.split("|")}
 
 
-def conditions(answer):
+def conditions(answer: str):
     return set(answer[5:].split("|")) - {"-"} if answer.startswith("poll ") else None

@@ -1,11 +1,12 @@
 """Runs a script by uxrun: the trace, and the audit after a number of calls."""
+from __future__ import annotations
+
 import subprocess
 import sys
 import tempfile
 from dataclasses import dataclass, field
-from pathlib import Path
 
-sys.path.append(str(Path(__file__).resolve().parents[2] / "shared"))
+import paths  # noqa: F401
 from find_uxrun import find_uxrun
 
 
@@ -32,11 +33,11 @@ class Trace:
 class Runner:
     """Runs scripts by the program named, or by the one that is found without a name, and counts how often."""
 
-    def __init__(self, uxrun=None):
+    def __init__(self, uxrun: str | None = None) -> None:
         self.uxrun = str(find_uxrun(Fault, uxrun, "--uxrun PATH or the variable UXRUN"))
         self.runs = 0
 
-    def run(self, text, audit=None):
+    def run(self, text: str, audit: int | None = None):
         self.runs += 1
         with tempfile.NamedTemporaryFile("w", suffix=".ux", encoding="ascii") as file:
             file.write(text)
@@ -46,7 +47,7 @@ class Runner:
         return read_trace(done.stdout, done.stderr if done.returncode else "")
 
 
-def read_trace(out, errors):
+def read_trace(out: str, errors: str):
     # The first line tells the fault; what follows explains it to who wrote the script by hand.
     trace = Trace(fault=errors.strip().partition("\n")[0])
     for line in out.splitlines():

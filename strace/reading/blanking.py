@@ -1,4 +1,6 @@
 """Takes the contents of files, terminals and other families' sockets out of a log while it is written."""
+from __future__ import annotations
+
 import re
 
 CARRIES = frozenset("""read pread64 readv preadv preadv2 write pwrite64 writev pwritev pwritev2 recvfrom recvmsg recvmmsg sendto
@@ -11,10 +13,10 @@ STRING = re.compile(r'"(?:[^"\\]|\\.)*"(?:\.\.\.)?')
 class Blanker:
     """Blanks line after line; a call that was cut in two is blanked as it began."""
 
-    def __init__(self):
-        self.secret = {}
+    def __init__(self) -> None:
+        self.secret: dict[str, bool] = {}
 
-    def blank(self, line):
+    def blank(self, line: str):
         """The line without contents that aren't needed."""
         found = LINE.match(line)
         if not found:

@@ -1,13 +1,20 @@
 """Joins the lines of a log to calls, each with the lines where it began and ended, and reads arguments and results."""
+from __future__ import annotations
+
 import os
 import re
 from collections import Counter
 from dataclasses import dataclass, field
+from typing import TYPE_CHECKING, Any
 
 from . import words
-from .effects import WITHOUT_EFFECT
+from .effects import has_no_effect
 from .head import Head
 from .lines import Kind, read_line
+
+if TYPE_CHECKING:
+    from .lines import Line
+    from pathlib import Path
 
 RESULT = re.compile(r"\s*= (-?0x[0-9a-f]+|-?\d+|\?)(?:" + words.NOTE + r")?(?: (E[A-Z0-9_]+))?(?: (\(.*\)))?", re.S)
 ANSWER = re.compile(r"\)\s+= (?:-?\d|0x|\?)")
@@ -26,6 +33,13 @@ class Result:
     error: str = ""
     detail: str = ""
 
+    @property
+    def number(self) -> int:
+        """The value of a call that has to have one."""
+        if self.value is None:
+            raise words.OtherForm("no answer")
+        return self.value
+
 
 @dataclass(slots=True)
 class Call:
@@ -41,7 +55,7 @@ class Call:
     def read(self):
         """Arguments and result, or the fault Unreadable."""
         values, rest = words.arguments(self.text)
-        return [after_name(value) for value in values], read_result(rest)
+        return words.Arguments(after_name(value) for value in values), read_result(rest)
 
 
 @dataclass(slots=True)
@@ -72,7 +86,7 @@ class Log:
     last_time: float | None = None
     replaced: list = field(default_factory=list)
 
-    def line_before(self, time):
+    def line_before(self, time: float):
         """The last line that was written before a time: where a call began or ended, or a process ended; 0 before the first."""
         lines = [call.begin for call in self.calls if call.time is not None and call.time <= time]
         lines += [call.end for call in self.calls if call.ended is not None and call.ended <= time]
@@ -80,12 +94,12 @@ class Log:
         return max(lines, default=0)
 
 
-def after_name(value):
+def after_name(value: Any):
     """An argument without its name, as of clone(flags=..)."""
     return value[1] if isinstance(value, tuple) else value
 
 
-def read_result(text):
+def read_result(text: str):
     """What a call answered; a process of another namespace by its number in strace's."""
     found = RESULT.match(text)
     if not found:
@@ -100,12 +114,12 @@ def read_result(text):
 class Joiner:
     """Takes the lines of a log one after another."""
 
-    def __init__(self):
+    def __init__(self) -> None:
         self.log = Log(Head())
-        self.pending = {}
-        self.last_line = {}
+        self.pending: dict[int, Line] = {}
+        self.last_line: dict[int, int] = {}
 
-    def add(self, number, text):
+    def add(self, number: int, text: str) -> None:
         log = self.log
         log.lines = number
         if text.startswith("#"):
@@ -118,7 +132,7 @@ class Joiner:
         self.take(line)
         self.last_line[line.thread] = number
 
-    def take(self, line):
+    def take(self, line: Line) -> None:
         if line.kind is Kind.WHOLE:
             self.finish(line, line.name, line.rest, line.number, line.time)
         elif line.kind is Kind.BEGUN:
@@ -136,8 +150,8 @@ class Joiner:
         elif line.kind is Kind.BAD and line.rest.strip():
             self.log.bad.append((line.number, words.shown(line.rest[:60])))
 
-    def finish(self, line, name, text, begin, time):
-        if name in WITHOUT_EFFECT:
+    def finish(self, line: Line, name: str, text: str, begin: int, time: float | None) -> None:
+        if has_no_effect(name, text):
             self.log.quiet[name] += 1
             found = OUTER.match(text)
             if found:
@@ -148,13 +162,13 @@ class Joiner:
         ended = time + float(took[1]) if took and time is not None else line.time
         self.log.calls.append(Call(line.thread, name, text, begin, line.number, time, ended))
 
-    def end(self, line):
+    def end(self, line: Line) -> None:
         killed = line.rest.split()[3] if line.name == "killed" else ""
         begin = self.last_line.get(line.thread, line.number)
         self.log.ends.append(End(line.thread, begin, line.number, killed, line.time))
         self.pending.pop(line.thread, None)
 
-    def replace(self, line):
+    def replace(self, line: Line) -> None:
         """Another thread of the process executes a program, and has the number of the first from now on."""
         other = int(line.name)
         self.log.replaced.append((line.number, line.thread, other))
@@ -166,7 +180,7 @@ class Joiner:
         """What had no end when the log ended."""
         for begun in self.pending.values():
             self.log.unfinished += 1
-            if begun.name not in WITHOUT_EFFECT:
+            if not has_no_effect(begun.name, begun.rest):
                 self.log.calls.append(Call(begun.thread, begun.name, begun.rest + ") = ?", begun.number, self.log.lines + 1,
                                            begun.time, None))
         self.log.calls.sort(key=lambda call: call.begin)
@@ -177,7 +191,7 @@ class TooLarge(ValueError):
     """A log of more bytes than are read."""
 
 
-def read_log(path, most=MOST_BYTES):
+def read_log(path: Path | str, most: int = MOST_BYTES):
     """The log of a file; a fault of the file itself is an OSError, one of more than so many bytes TooLarge."""
     joiner, number, total = Joiner(), 0, 0
     with open(path, encoding="latin-1", newline="\n") as file:
@@ -192,7 +206,7 @@ def read_log(path, most=MOST_BYTES):
     return joiner.close()
 
 
-def refuse_above(most, size, path):
+def refuse_above(most: int, size: int, path: Path | str) -> None:
     if size > most:
         raise TooLarge(f"{path}: more than {most >> 20} MB: record a shorter run, or give --megabytes N and the memory for it, up to "
                        "twenty times the log's")

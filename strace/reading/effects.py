@@ -1,4 +1,7 @@
 """Which calls change nothing that the layer has, by their names; and which only make an opaque descriptor."""
+from __future__ import annotations
+
+import re
 
 WITHOUT_EFFECT = frozenset("""
 access faccessat faccessat2 fstat fstat64 newfstatat stat lstat statx statfs fstatfs getdents getdents64 readlink readlinkat
@@ -13,6 +16,15 @@ getgroups getcwd alarm setitimer pause restart_syscall times getrusage getcpu me
 timerfd_settime timerfd_gettime inotify_add_watch inotify_rm_watch fanotify_mark fallocate truncate
 quotactl_fd mount umount2 pivot_root swapon swapoff cachestat personality capget capset setpriority getpriority
 """.split())
+
+# A file that is mapped to be written to (mmap(2)).
+MAPS_TO_WRITE = re.compile(r"PROT_[A-Z_|]*WRITE[A-Z_|]*, MAP_SHARED")
+
+
+def has_no_effect(name: str, text: str) -> bool:
+    """Whether a call changes nothing that the layer has, by its name and arguments."""
+    return name in WITHOUT_EFFECT and not (name in ("mmap", "mmap2") and MAPS_TO_WRITE.search(text))
+
 
 MAKES_OPAQUE = frozenset("""
 epoll_create epoll_create1 timerfd_create signalfd signalfd4 inotify_init inotify_init1 fanotify_init userfaultfd pidfd_open

@@ -1,4 +1,6 @@
 """What record writes at the head of a log: folder, user, limit, and the descriptors that the program was given."""
+from __future__ import annotations
+
 from dataclasses import dataclass, field
 from urllib.parse import quote, unquote
 
@@ -20,7 +22,7 @@ class Head:
     group: int | None = None
     inherited: list = field(default_factory=list)
 
-    def add(self, text):
+    def add(self, text: str) -> None:
         """One line that begins with #; others than record's are skipped."""
         parts = text[1:].split()
         try:

@@ -1,4 +1,6 @@
 """Reads the lines of a log: who, when, and whether a call begins, ends or does both, or a process ends."""
+from __future__ import annotations
+
 import re
 from dataclasses import dataclass
 from enum import Enum
@@ -34,7 +36,7 @@ UNFINISHED = re.compile(r"\s*<unfinished \.\.\.>$")
 NO_THREAD = 0
 
 
-def read_line(number, text):
+def read_line(number: int, text: str):
     """One line of a log, without its line feed."""
     head = HEAD.match(text)
     assert head is not None  # all of its parts may be missing
@@ -47,7 +49,7 @@ def read_line(number, text):
     return Line(number, thread, time, kind, name, rest)
 
 
-def _kind_of(rest):
+def _kind_of(rest: str):
     call = CALL.match(rest)
     if call:
         behind = rest[call.end():]

@@ -1,6 +1,12 @@
 """Reads strace/programs: what strace/check runs."""
+from __future__ import annotations
+
 import shutil
 from dataclasses import dataclass, field
+from typing import TYPE_CHECKING
+
+if TYPE_CHECKING:
+    from pathlib import Path
 
 
 PAUSE = "pause() { sleep 0.12; }"
@@ -24,7 +30,7 @@ class Program:
         return [command for command in self.needs if not shutil.which(command, path=path)]
 
 
-def read_programs(path):
+def read_programs(path: Path | str):
     """The programs of a list, in its order; a ValueError says which line isn't one of such a list."""
     found: list[Program] = []
     with open(path, encoding="utf-8") as file:

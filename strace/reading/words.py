@@ -1,10 +1,27 @@
 """Reads the words of a call's arguments as strace(1) writes them: strings, descriptors, structures, lists and flags."""
+from __future__ import annotations
+
 import re
 from dataclasses import dataclass
+from typing import Any
 
 
 class Unreadable(Exception):
     """A text that isn't what strace writes."""
+
+
+class OtherForm(Exception):
+    """An argument that isn't of the form that those of its call have."""
+
+
+class Arguments(list):
+    """A call's arguments, of which there may be fewer than its call has."""
+
+    def __getitem__(self, place: Any):
+        try:
+            return super().__getitem__(place)
+        except IndexError:
+            raise OtherForm(f"no argument {place + 1}") from None
 
 
 @dataclass(slots=True, frozen=True)
@@ -50,15 +67,17 @@ NO_VALUE = re.compile(BLANK + r"(?:[,}\])]|$)", re.S)
 ARROW = re.compile(BLANK + "=>", re.S)
 BEHIND = frozenset(",)]}")
 MOST_NESTED = 40
+# That a value is wanted.
+WANTED = object()
 
 
-def unquote(text):
+def unquote(text: str):
     """The bytes of a string between its quotes."""
     raw = text.encode("latin-1")
     return ESCAPE.sub(_escaped, raw) if b"\\" in raw else raw
 
 
-def _escaped(match):
+def _escaped(match: re.Match[bytes]):
     body = match[1]
     if body[:1] == b"x" and len(body) > 1:
         return bytes([int(body[1:], 16)])
@@ -70,7 +89,7 @@ def _escaped(match):
 class Reader:
     """Reads one list of arguments from its opening bracket to its closing one, token by token."""
 
-    def __init__(self, text, at=0):
+    def __init__(self, text: str, at: int = 0) -> None:
         self.text = text
         self.at = at
         self.depth = 0
@@ -83,7 +102,7 @@ class Reader:
         self.at = found.end()
         return found
 
-    def sequence(self, end):
+    def sequence(self, end: str):
         """Values up to a closing bracket."""
         self.depth += 1
         if self.depth > MOST_NESTED:
@@ -107,9 +126,9 @@ class Reader:
                 fields[place] = value
         return fields
 
-    def value(self, found):
+    def value(self, found: re.Match[str]):
         """The value that begins with this token, with the one that it changed to."""
-        kind = found.lastgroup
+        kind = found.lastgroup or ""
         before = SIMPLE[kind](found) if kind in SIMPLE else self.nested(kind, found)
         if self.text[self.at:self.at + 1] not in BEHIND:
             arrow = ARROW.match(self.text, self.at)
@@ -124,7 +143,7 @@ class Reader:
             raise Unreadable("no value")
         return self.value(self.token())
 
-    def nested(self, kind, found):
+    def nested(self, kind: str, found: re.Match[str]):
         """A value that has others in it; a macro's call, as htons(80), stays a text."""
         if kind == "list":
             return self.sequence("]")
@@ -138,21 +157,21 @@ class Reader:
         return found[kind]
 
 
-def _string(found):
+def _string(found: re.Match[str]):
     return Text(unquote(found["quoted"]), bool(found["cut"]), bool(found["abstract"]))
 
 
-def _noted(found):
+def _noted(found: re.Match[str]):
     number = -100 if found["descriptor"] == "AT_FDCWD" else int(found["descriptor"])
     return Descriptor(number, without_device(found["note"]) + (" (deleted)" if found["noted"].endswith("(deleted)") else ""))
 
 
-def without_device(note):
+def without_device(note: str):
     """A note without the numbers of a device, which stand behind its path."""
     return DEVICE.sub("", note) if note.endswith(">") else note
 
 
-def _number(found):
+def _number(found: re.Match[str]):
     digits = found["number"]
     return int(digits, 16 if "x" in digits else 10)
 
@@ -160,42 +179,58 @@ def _number(found):
 SIMPLE = {"noted": _noted, "number": _number, "text": _string}
 
 
-def arguments(text):
+def arguments(text: str):
     """The values between the brackets of a call, of which `text` begins behind the opening one; and what follows."""
     reader = Reader(text)
     values = reader.sequence(")")
     return values, text[reader.at:]
 
 
-def number_of(value, otherwise=None):
-    """The number of a descriptor or of a number, after the call."""
+def number_of(value: Any, otherwise: Any = WANTED):
+    """The number of a descriptor or of a number, after the call; of what is neither the other value, where one is given."""
     value = after(value)
     if isinstance(value, list) and len(value) == 1:
         value = value[0]
     if isinstance(value, Descriptor):
         return value.number
+    if not isinstance(value, int) and otherwise is WANTED:
+        raise OtherForm(f"{str(value)[:40]} for a number")
     return value if isinstance(value, int) else otherwise
 
 
-def after(value):
+def fields_of(value: Any):
+    """The fields of a structure, after the call."""
+    value = after(value)
+    if not isinstance(value, dict):
+        raise OtherForm(f"{str(value)[:40]} for a structure")
+    return value
+
+
+def list_of(value: Any):
+    """The values of a list, after the call; none of what isn't one, as NULL."""
+    value = after(value)
+    return value if isinstance(value, list) else []
+
+
+def after(value: Any):
     """A value after the call."""
     while isinstance(value, Change):
         value = value.after
     return value
 
 
-def room_of(value):
+def room_of(value: Any) -> int:
     """How many bytes a list of buffers has room for."""
     return sum(number_of(one.get("iov_len"), 0) for one in after(value) or [] if isinstance(one, dict))
 
 
-def shown(data):
+def shown(data: bytes | str) -> str:
     """Bytes, or a text of a log, as a report shows them: in one line, with ? for what can't be printed."""
     text = data.decode("utf-8", "replace") if isinstance(data, bytes) else data
     return "".join(letter if letter.isprintable() else "?" for letter in text)
 
 
-def flags_of(value):
+def flags_of(value: Any):
     """The names of a value's flags."""
     value = after(value)
     return set(value.split("|")) if isinstance(value, str) else set()

@@ -1,11 +1,23 @@
 """Says the calls on descriptor tables: close, close_range, dup, dup2, dup3, fcntl and ioctl."""
+from __future__ import annotations
+
+from typing import TYPE_CHECKING, Any
+
 from reading.words import Descriptor, flags_of, number_of
 from . import doubts
+from .amounts import WAITING, say_waiting
+from .limits import say_seals
 from .model import Description, Kind, Slot
 from .world import HIGHEST, says
 
+if TYPE_CHECKING:
+    from reading.calls import Result
+    from reading.words import Arguments
+    from .model import Block, Process
+    from .world import World
+
 FLAG_REQUESTS = {"FIONBIO", "FIOCLEX", "FIONCLEX"}
-QUERY_REQUESTS = {"FIONREAD", "TIOCOUTQ", "SIOCINQ", "SIOCOUTQ", "FIOASYNC", "TIOCINQ"}
+QUERY_REQUESTS = {"TIOCOUTQ", "SIOCOUTQ", "FIOASYNC", "SIOCATMARK"}
 MAKES_NUMBER = {"TIOCGPTPEER", "SIOCUNIXFILE", "NS_GET_USERNS", "NS_GET_PARENT", "SECCOMP_IOCTL_NOTIF_ADDFD"}
 O_CLOEXEC = 0o2000000
 O_APPEND, O_NONBLOCK, O_ASYNC = 0o2000, 0o4000, 0o20000
@@ -16,22 +28,22 @@ DUPLICATES = {"F_DUPFD": False, "F_DUPFD_CLOEXEC": True}
 FORGETS = 4294967295
 
 
-def note_of(value):
+def note_of(value: Any):
     return value.note if isinstance(value, Descriptor) else ""
 
 
-def make_pidfd(world, block, process, number):
+def make_pidfd(world: World, block: Block, process: Process, number: int) -> None:
     """A descriptor of a process, which is close-on-exec always (pidfd_open(2))."""
     world.make(block, process, number, Description(Kind.OPAQUE, "a process's descriptor", inode="anon_inode:[pidfd]"), True)
 
 
-def on_unix(block, slot):
+def on_unix(block: Block, slot: Slot | None) -> None:
     """Marks the call as one on a socket of the layer."""
     block.unix = block.unix or bool(slot and slot.description.kind.is_socket)
 
 
 @says("close")
-def say_close(world, block, process, args, result):
+def say_close(world: World, block: Block, process: Process, args: Arguments, result: Result) -> None:
     number = number_of(args[0])
     if result.error and result.error != "EBADF":
         block.leave_out("close that failed with another error")
@@ -49,7 +61,7 @@ def say_close(world, block, process, args, result):
     close(world, block, process, number, slot)
 
 
-def close(world, block, process, number, slot):
+def close(world: World, block: Block, process: Process, number: int, slot: Slot) -> None:
     on_unix(block, slot)
     if number <= HIGHEST:
         world.step(block, process.seat, f"close {number}", "ok", slot.description)
@@ -57,7 +69,7 @@ def close(world, block, process, number, slot):
 
 
 @says("close_range")
-def say_close_range(world, block, process, args, result):
+def say_close_range(world: World, block: Block, process: Process, args: Arguments, result: Result) -> None:
     if result.error:
         block.leave_out("close_range that failed")
         return
@@ -70,7 +82,7 @@ def say_close_range(world, block, process, args, result):
                 slot.on_exec = True
                 set_flags(world, block, process, number, slot)
             else:
-                world.closes.setdefault((id(process), number), []).append((block.call.begin, "close_range"))
+                world.uses.close(process, number, block.call)
                 close(world, block, process, number, slot)
     if block.steps:
         block.otherwise("close_range as several closes")
@@ -78,20 +90,20 @@ def say_close_range(world, block, process, args, result):
         block.leave_out("close_range of no open descriptor")
 
 
-def set_flags(world, block, process, number, slot):
+def set_flags(world: World, block: Block, process: Process, number: int, slot: Slot) -> None:
     letters = world.letters(slot.description, slot.on_exec)
     world.step(block, process.seat, f"flags {number} {letters}", "ok", slot.description)
 
 
 @says("dup")
-def say_dup(world, block, process, args, result):
+def say_dup(world: World, block: Block, process: Process, args: Arguments, result: Result) -> None:
     duplicate(world, block, process, args[0], result, 0, False)
 
 
 @says("dup2", "dup3")
-def say_dup2(world, block, process, args, result):
+def say_dup2(world: World, block: Block, process: Process, args: Arguments, result: Result) -> None:
     source, target = number_of(args[0]), number_of(args[1])
-    if result.error:
+    if result.error or result.value is None:
         refuse(world, block, process, f"dup2 {source} {target}", result, "EBADF", source, target)
         return
     slot = world.slot(block, process, source, note_of(args[0]) or result.note)
@@ -106,20 +118,21 @@ def say_dup2(world, block, process, args, result):
         block.otherwise("dup3 as dup2 and flags")
 
 
-def refuse(world, block, process, words, result, known, *numbers):
+def refuse(world: World, block: Block, process: Process, words: str, result: Result, known: str, *numbers: int) -> None:
     """A call that failed: said where the layer knows its error."""
     if result.error == known and all(0 <= number <= HIGHEST for number in numbers):
         world.step(block, process.seat, words, f"err {result.error}")
     else:
-        block.leave_out(f"{block.call.name} that failed: {result.error}")
+        block.leave_out(f"{block.call.name} that failed: {result.error}" if result.error else f"{block.call.name} without an answer")
 
 
-def put_at(world, block, process, source, target, slot, on_exec):
+def put_at(world: World, block: Block, process: Process, source: int, target: int, slot: Slot, on_exec: bool) -> None:
     """dup2, and the flag where it is wanted."""
     world.step(block, process.seat, f"dup2 {source} {target}", f"fd {target}", slot.description)
     if source == target:
         return
     if target in process.table:
+        block.concern(process.table[target].description)
         world.drop(process, target)
     copy = Slot(slot.description, on_exec)
     process.table[target] = copy
@@ -129,11 +142,11 @@ def put_at(world, block, process, source, target, slot, on_exec):
         set_flags(world, block, process, target, copy)
 
 
-def duplicate(world, block, process, value, result, least, on_exec):
+def duplicate(world: World, block: Block, process: Process, value: Any, result: Result, least: int, on_exec: bool) -> None:
     """dup and F_DUPFD where the lowest free number from the minimum on is the one given, else dup2."""
     source = number_of(value)
     words = f"dupfd {source} {least}" if least else f"dup {source}"
-    if result.error:
+    if result.error or result.value is None:
         refuse(world, block, process, words, result, "EBADF", source)
         return
     slot = world.slot(block, process, source, note_of(value) or result.note)
@@ -154,7 +167,7 @@ def duplicate(world, block, process, value, result, least, on_exec):
 
 
 @says("fcntl", "fcntl64")
-def say_fcntl(world, block, process, args, result):
+def say_fcntl(world: World, block: Block, process: Process, args: Arguments, result: Result) -> None:
     number, request = number_of(args[0]), str(args[1])
     if request in DUPLICATES:
         duplicate(world, block, process, args[0], result, number_of(args[2], 0), DUPLICATES[request])
@@ -175,12 +188,14 @@ def say_fcntl(world, block, process, args, result):
         take_flags(slot, request, args[2])
         set_flags(world, block, process, number, slot)
         block.otherwise("fcntl as flags")
+    elif request in ("F_ADD_SEALS", "F_GET_SEALS"):
+        say_seals(world, block, process, number, request, args[-1], result)
     else:
         on_unix(block, process.table.get(number))
         block.leave_out(f"fcntl {request}")
 
 
-def tells_flags(block, process, number, request, result):
+def tells_flags(block: Block, process: Process, number: int, request: str, result: Result):
     """Whether flags are told of a description that the log shows whole."""
     slot = process.table.get(number)
     on_unix(block, slot)
@@ -188,19 +203,19 @@ def tells_flags(block, process, number, request, result):
     return is_known and not result.error and result.value is not None and number <= HIGHEST
 
 
-def may_be(description, request, result):
+def may_be(description: Description, request: str, result: Result):
     """Whether flags are such as the description can have, by how it was opened and by the names that strace tells beside them."""
     if request == "F_GETFD":
         return result.value in (0, FD_CLOEXEC)
     names = flags_of(result.detail.removeprefix("(flags ").rstrip(")"))
-    mode = MODES.get(result.value & O_ACCMODE)
+    mode = MODES.get(result.number & O_ACCMODE)
     bits = {"O_APPEND": O_APPEND, "O_NONBLOCK": O_NONBLOCK, "O_RDWR": O_RDWR, "O_WRONLY": O_WRONLY}
-    is_told = not names or all((name in names) == (result.value & bit == bit) for name, bit in bits.items())
-    is_plain = not description.kind.is_socket or not result.value & ~(O_ACCMODE | O_APPEND | O_NONBLOCK | O_ASYNC)
+    is_told = not names or all((name in names) == (result.number & bit == bit) for name, bit in bits.items())
+    is_plain = not description.kind.is_socket or not result.number & ~(O_ACCMODE | O_APPEND | O_NONBLOCK | O_ASYNC)
     return mode is not None and description.mode in ("", mode) and is_told and is_plain
 
 
-def flag_names(slot, request, value):
+def flag_names(slot: Slot, request: str, value: Any) -> str:
     """The flags as the log tells them, and those that this request doesn't tell as they were set."""
     description = slot.description
     append, nonblocking, on_exec = description.append, description.nonblocking, slot.on_exec
@@ -212,7 +227,7 @@ def flag_names(slot, request, value):
     return "|".join(name for name, is_set in names.items() if is_set) or "-"
 
 
-def take_flags(slot, request, value):
+def take_flags(slot: Slot, request: str, value: Any) -> None:
     flags = flags_of(value)
     if request == "F_SETFD":
         slot.on_exec = "FD_CLOEXEC" in flags or value == 1
@@ -223,7 +238,7 @@ def take_flags(slot, request, value):
 
 
 @says("ioctl")
-def say_ioctl(world, block, process, args, result):
+def say_ioctl(world: World, block: Block, process: Process, args: Arguments, result: Result) -> None:
     number, request = number_of(args[0]), str(args[1])
     slot = process.table.get(number)
     on_unix(block, slot)
@@ -242,8 +257,10 @@ def say_ioctl(world, block, process, args, result):
         block.otherwise(f"{request} as flags")
     elif result.note or request in MAKES_NUMBER:
         description = Description(Kind.OPAQUE, result.note or request, inode=result.note)
-        world.make(block, process, result.value, description, "O_CLOEXEC" in block.call.text or bool(number_of(args[2], 0) & O_CLOEXEC))
+        world.make(block, process, result.number, description, "O_CLOEXEC" in block.call.text or bool(number_of(args[2], 0) & O_CLOEXEC))
         block.otherwise(f"a new number by ioctl {request}: an opaque object")
+    elif request in WAITING:
+        say_waiting(world, block, slot, args[2])
     elif block.unix and request not in QUERY_REQUESTS:
         world.unknown_effect(block, process, args)
     else:

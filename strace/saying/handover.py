@@ -2,22 +2,30 @@
 
 A process of the layer that gave its privileges up has no way back, as a program has that saved them. So it goes on as another
 of the header, which gets its descriptors by a datagram with rights."""
+from __future__ import annotations
+
+from typing import TYPE_CHECKING
+
 from .model import Process, Role, Slot, mark
+
+if TYPE_CHECKING:
+    from .model import Block, Seat
+    from .world import World
 
 MOST_RIGHTS = 253
 
 
-def chunks(values, size):
+def chunks(values: list, size: int):
     return [values[at:at + size] for at in range(0, len(values), size)]
 
 
-def fork(world, block, parent, thread):
+def fork(world: World, block: Block, parent: Process, thread: int):
     """The child of a process, with a copy of its table."""
     table = {number: Slot(slot.description, slot.on_exec) for number, slot in parent.table.items()}
     child = Process(thread, parent, table, parent.folder, parent.program, user=parent.user, group=parent.group,
                     privileged=parent.privileged, users=parent.users, groups=parent.groups)
     child.unseen, child.root = set(parent.unseen), parent.root
-    world.enter(child, thread)
+    world.people.enter(child, thread)
     child.birth = block
     for slot in table.values():
         if slot.description.thing is not None:
@@ -25,7 +33,7 @@ def fork(world, block, parent, thread):
     if parent.unsaid or parent.seat is None:
         child.unsaid = parent.unsaid
         return child
-    child.seat = world.new_seat(parent.user, parent.group, child, forked=True)
+    child.seat = world.people.new_seat(parent.user, parent.group, child, forked=True)
     if child.seat:
         world.step(block, parent.seat, "fork", f"child {mark(child.seat)}")
     else:
@@ -34,11 +42,11 @@ def fork(world, block, parent, thread):
     return child
 
 
-def go_on_as(world, block, process, user, group):
+def go_on_as(world: World, block: Block, process: Process, user: int, group: int) -> None:
     """The process goes on as another one of the header, with other ids."""
     process.user, process.group, process.privileged = user, group, user == 0
-    seat = world.new_seat(user, group, process) if process.seat else None
-    if seat is None:
+    seat = world.people.new_seat(user, group, process) if process.seat else None
+    if seat is None or process.seat is None:
         block.not_at_all("a change of user that the layer refuses")
         return
     hand_over(world, block, process.seat, seat, process.table)
@@ -47,11 +55,11 @@ def go_on_as(world, block, process, user, group):
     block.otherwise("a change of user that the layer refuses: another process of the script gets the table")
 
 
-def hand_over(world, block, giver, taker, table):
+def hand_over(world: World, block: Block, giver: Seat, taker: Seat, table: dict[int, Slot]) -> None:
     """The lines by which one process gets the descriptors of another under the same numbers."""
     numbers = sorted(table)
 
-    def line(seat, words):
+    def line(seat: Seat, words: str) -> None:
         world.step(block, seat, words, role=Role.HAND_OVER)
 
     if not numbers:
@@ -71,7 +79,7 @@ def hand_over(world, block, giver, taker, table):
             line(taker, f"flags {number} {world.letters(table[number].description, True)}")
 
 
-def take_from(world, block, giver, number, taker, wanted, on_exec):
+def take_from(world: World, block: Block, giver: Process, number: int, taker: Process, wanted: int, on_exec: bool) -> None:
     """The lines by which a process gets one descriptor of another, as pidfd_getfd(2) does: a copy, under the lowest free number."""
     description = giver.table[number].description
     name = f"a:~taken{len(world.blocks)}"
@@ -89,7 +97,7 @@ def take_from(world, block, giver, number, taker, wanted, on_exec):
         description.thing.ends += 1
 
 
-def placing(numbers):
+def placing(numbers: list[int]):
     """Moves descriptors that came as 1, 2, .. to the numbers wanted, which rise; 0 is the socket that they came over."""
     lines = []
     count = len(numbers)

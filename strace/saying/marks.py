@@ -2,12 +2,20 @@
 
 A rule of strace/rules.txt names such marks, so that it holds of what the log shows in that state alone. They follow from the
 calls that are said and from the kernel's replies to them."""
-from dataclasses import dataclass, field
+from __future__ import annotations
 
-from .model import Kind
+from dataclasses import dataclass, field
+from typing import TYPE_CHECKING
+
+from .model import FILLED, MESSAGE_COST, Kind
+
+if TYPE_CHECKING:
+    from .model import Description
 
 NO_MARKS: frozenset = frozenset()
 LAYER_BACKLOG = 128
+# From so many messages that wait a sender may be told EAGAIN, here or on Linux: net.unix.max_dgram_qlen is 10 at first.
+MANY_MESSAGES = 10
 TIED_KINDS = (Kind.STREAM, Kind.RECORDS)
 
 
@@ -30,13 +38,13 @@ class Past:
     backlog: int | None = None
 
 
-def past_of(description):
+def past_of(description: Description):
     """What calls left at a description, where something is to be kept."""
     description.past = description.past or Past()
     return description.past
 
 
-def marks_of(description, seen_by=None):
+def marks_of(description: Description | None, seen_by: Description | None = None):
     """The marks of a description, by the words that rules have for them; `seen_by` is the socket whose call leads to it."""
     if description is None:
         return NO_MARKS
@@ -49,6 +57,10 @@ def marks_of(description, seen_by=None):
     if past is not None:
         found |= own_marks(description, past)
     peer = description.peer
+    if has_many(description):
+        found.add("has-many")
+    if peer is not None and (has_many(peer) or has_sent_much(description)):
+        found.add("sends-to-many")
     if description.kind in TIED_KINDS and is_half_closed(past, peer.past if peer is not None else None):
         found.add("half-closed")
     if description.name or past is not None and (past.autobound or past.named_at_once):
@@ -56,7 +68,19 @@ def marks_of(description, seen_by=None):
     return frozenset(found) if found else NO_MARKS
 
 
-def own_marks(description, past):
+def has_many(description: Description) -> bool:
+    """Whether so many messages wait at a socket that some system's bound is met; dropped ones wait here still."""
+    dropped = description.past.dropped if description.past is not None else 0
+    return len(description.messages) + dropped >= MANY_MESSAGES
+
+
+def has_sent_much(description: Description) -> bool:
+    """Whether what a socket sent and nobody has received meets its SO_SNDBUF, which may be as little as 4,608 bytes."""
+    waiting = [one.size for one in description.peer.messages if one.sender is description]
+    return sum(waiting) + MESSAGE_COST * len(waiting) >= FILLED or bool(waiting) and "SO_SNDBUF" in description.buffers
+
+
+def own_marks(description: Description, past: Past):
     """The marks that stand in what calls left."""
     told = {
         "passcred": past.passcred, "inherits-passcred": past.inherits, "named-at-once": past.named_at_once,
@@ -68,7 +92,7 @@ def own_marks(description, past):
     return {mark for mark, is_there in told.items() if is_there}
 
 
-def is_half_closed(mine, theirs):
+def is_half_closed(mine: Past | None, theirs: Past | None) -> bool:
     """Whether both directions are shut down, by one end or the other."""
     shut = set(mine.shut) if mine else set()
     shut |= {"w" if way == "r" else "r" for way in theirs.shut} if theirs else set()
@@ -77,7 +101,7 @@ def is_half_closed(mine, theirs):
 
 # ---- what calls leave
 
-def follow(description, other, words, reply):
+def follow(description: Description, other: Description | None, words: str, reply: str) -> None:
     """Keeps what a call left, by its words and the kernel's reply."""
     name = words.split(" ", 1)[0]
     handler = LEAVES.get(name)
@@ -88,7 +112,7 @@ def follow(description, other, words, reply):
         description.past.lost = ""
 
 
-def leave_option(description, other, words, reply):
+def leave_option(description: Description, other: Description | None, words: list[str], reply: str) -> None:
     if words[2] != "passcred" or reply != "ok":
         return
     past = past_of(description)
@@ -98,22 +122,22 @@ def leave_option(description, other, words, reply):
         past.unsigned |= waits(description)
 
 
-def leave_name(description, other, words, reply):
+def leave_name(description: Description, other: Description | None, words: list[str], reply: str) -> None:
     if words[2] == "u" and reply == "ok":
         past_of(description).autobound = True
 
 
-def leave_listen(description, other, words, reply):
+def leave_listen(description: Description, other: Description | None, words: list[str], reply: str) -> None:
     if reply == "ok":
         past_of(description).backlog = int(words[2])
 
 
-def leave_shutdown(description, other, words, reply):
+def leave_shutdown(description: Description, other: Description | None, words: list[str], reply: str) -> None:
     if reply == "ok":
         past_of(description).shut |= set(words[2])
 
 
-def leave_association(description, other, words, reply):
+def leave_association(description: Description, other: Description | None, words: list[str], reply: str) -> None:
     """Linux drops what waits at a datagram socket whose target changes, and tells a former target that was associated with it."""
     if reply == "ok" and description.kind is Kind.DATAGRAM and description.peer is not None and other is not description.peer:
         if waits(description) and description.peer.peer is description and not is_gone(description.peer):
@@ -121,7 +145,7 @@ def leave_association(description, other, words, reply):
         drop_queue(description)
 
 
-def leave_send(description, other, words, reply):
+def leave_send(description: Description, other: Description | None, words: list[str], reply: str) -> None:
     has_address = words[0] == "send" and words[2] != "-"
     if reply == "err ECONNREFUSED" and description.kind is Kind.DATAGRAM and not has_address:
         drop_queue(description)
@@ -130,7 +154,7 @@ def leave_send(description, other, words, reply):
         past_of(reached).rights += 1
 
 
-def leave_receive(description, other, words, reply):
+def leave_receive(description: Description, other: Description | None, words: list[str], reply: str) -> None:
     past = description.past
     is_peek = words[0] == "recv" and "p" in words[4]
     if words[0] == "read" and words[2] == "0" and reply == "bytes -" and description.kind is not Kind.STREAM and waits(description):
@@ -150,7 +174,7 @@ def leave_receive(description, other, words, reply):
         past.lost = ""
 
 
-def leave_error(description, other, words, reply):
+def leave_error(description: Description, other: Description | None, words: list[str], reply: str) -> None:
     if words[2] == "error" and description.past is not None:
         description.past.lost = ""
 
@@ -159,22 +183,22 @@ LEAVES = {"setopt": leave_option, "bind": leave_name, "listen": leave_listen, "s
           "send": leave_send, "write": leave_send, "recv": leave_receive, "read": leave_receive, "getopt": leave_error}
 
 
-def waits(description):
+def waits(description: Description) -> bool:
     """Whether something waits to be received, as far as the log tells."""
     if description.kind is Kind.STREAM:
         return description.peer is not None and bool(description.peer.unread)
     return description.pending > 0
 
 
-def drop_queue(description):
+def drop_queue(description: Description) -> None:
     """All that waits is lost on Linux, and stays here."""
     if waits(description):
         past_of(description).dropped += description.pending
         description.pending = 0
-        description.senders.clear()
+        description.messages.clear()
 
 
-def inherit(made, listener):
+def inherit(made: Description, listener: Description) -> None:
     """A server's end has its listener's SO_PASSCRED on Linux."""
     if listener.past is not None and (listener.past.passcred or listener.past.inherits):
         past_of(made).inherits = True
@@ -182,11 +206,11 @@ def inherit(made, listener):
 
 # ---- how a description goes
 
-def is_gone(description):
+def is_gone(description: Description):
     return description.held == 0 and description.was_held and description.flying == 0
 
 
-def released(description):
+def released(description: Description) -> None:
     """One descriptor of it less; with the last one its peer is told."""
     description.held -= 1
     if not is_gone(description) or description.kind not in TIED_KINDS:

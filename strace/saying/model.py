@@ -1,4 +1,7 @@
 """The types that a log is said in: descriptions, tables, processes, seats of the layer, and blocks of a script's lines."""
+from __future__ import annotations
+
+import posixpath
 from dataclasses import dataclass, field
 from enum import Enum
 from sys import intern
@@ -6,6 +9,8 @@ from typing import Any
 
 
 WHOLE = 65536
+# Real, effective and saved ids.
+Ids = tuple[int, int, int]
 
 
 class Kind(Enum):
@@ -18,7 +23,7 @@ class Kind(Enum):
     MEMORY = "mem"
     OPAQUE = "opaque"
 
-    def __init__(self, word):
+    def __init__(self, word: str) -> None:
         self.is_socket = word in ("stream", "dgram", "seq")
 
 
@@ -38,12 +43,21 @@ class Role(Enum):
     MOVE = "move"
 
 
+@dataclass(slots=True)
+class Message:
+    """A datagram or record that waits: the socket that sent it, and how many bytes it has."""
+    sender: Any
+    size: int
+
+
 @dataclass(slots=True, eq=False)
 class Description:
     """An open file description as the log shows it. `unknown` says why its later replies aren't compared;
-    `unread` has the lengths of what was sent and not yet received, `senders` whose messages wait, `held` and `flying` how many
-    descriptors and rights on their way lead to it, `past` what marks.py keeps; `mode` is r, w or rw where that is
-    known, `has_own_buffer` says that SO_SNDBUF was set, and `is_given` that its flags were set by what the log doesn't show."""
+    `unread` has the lengths of what was sent and not yet received, and `blurred` how many of these bytes, up to the last one that the
+    log doesn't show; `messages` has what waits to be received, but of a stream; `offset` is a memory file's; `held` and `flying` are how
+    many descriptors and rights on their way lead to it, `past` what marks.py keeps; `mode` is r, w or rw where that is known,
+    `spelling` is the path that its bind gave, `buffers` has the sizes that SO_SNDBUF and SO_RCVBUF were set to, and `is_given` says that
+    its flags were set by what the log doesn't show."""
     kind: Kind
     what: str
     nonblocking: bool = False
@@ -62,23 +76,26 @@ class Description:
     made_by: Any = None
     outer: Any = None
     pending: int = 0
-    senders: list = field(default_factory=list)
+    messages: list = field(default_factory=list)
+    blurred: int = 0
+    offset: int = 0
     is_split: bool = False
     held: int = 0
     was_held: bool = False
     flying: int = 0
     past: Any = None
     mode: str = ""
-    has_own_buffer: bool = False
+    buffers: dict = field(default_factory=dict)
+    spelling: bytes | None = None
     is_given: bool = False
 
     def state(self):
         """What differences.txt calls the kind of a descriptor."""
         if not self.kind.is_socket:
-            filled = "/filled" if self.kind is Kind.PIPE and self.thing.level >= PAGES_USED else ""
+            filled = "/filled" if self.kind is Kind.PIPE and self.thing is not None and self.thing.level >= PAGES_USED else ""
             return self.kind.value + filled if self.kind is not Kind.OPAQUE else "mem"
         memory = sum(self.unread) + MESSAGE_COST * len(self.unread)
-        is_filled = memory >= FILLED or self.has_own_buffer and memory > 0
+        is_filled = memory >= FILLED or "SO_SNDBUF" in self.buffers and memory > 0
         filled = "/filled" if self.kind is Kind.STREAM and self.phase == "tied" and is_filled else ""
         return f"{self.kind.value}/{self.phase}{filled}"
 
@@ -91,13 +108,19 @@ MESSAGE_COST = 768
 
 @dataclass(slots=True, eq=False)
 class Thing:
-    """A file object of the layer that a log makes at run time: its name if the header has it, and why its contents aren't known, if so."""
+    """A file object of the layer that a log makes at run time: its name if the header has it, and why its contents aren't known, if so.
+    `level` is how many bytes wait in a pipe, and `blurred` how many of these, up to the last one that the log doesn't show; `size` and
+    `seals` are a memory file's, and `is_hidden` says that the log doesn't show what was written to it."""
     name: str
     kind: Kind
     unknown: str = ""
     ends: int = 0
     sent: bool = False
     level: int = 0
+    blurred: int = 0
+    size: int = 0
+    seals: int = 0
+    is_hidden: bool = False
 
 
 @dataclass(slots=True)
@@ -106,7 +129,7 @@ class Slot:
     description: Description
     on_exec: bool = False
 
-    def __post_init__(self):
+    def __post_init__(self) -> None:
         self.description.held += 1
         self.description.was_held = True
 
@@ -123,7 +146,7 @@ class Seat:
     privileged: bool = False
 
 
-def mark(seat):
+def mark(seat: Seat) -> str:
     """What stands for a seat's number in a script's words until all seats have theirs."""
     return f"\0{seat.key}\0"
 
@@ -146,8 +169,8 @@ class Process:
     user: int = 0
     group: int = 0
     privileged: bool | None = None
-    users: tuple | None = None
-    groups: tuple | None = None
+    users: Ids = (0, 0, 0)
+    groups: Ids = (0, 0, 0)
     unsaid: str = ""
     root: bytes = b""
     unseen: set = field(default_factory=set)
@@ -156,16 +179,24 @@ class Process:
     execs: int = 0
     last: int = 0
 
-    def __post_init__(self):
+    def __post_init__(self) -> None:
         self.privileged = self.user == 0 if self.privileged is None else self.privileged
-        self.users = self.users or (self.user,) * 3
-        self.groups = self.groups or (self.group,) * 3
+        if self.parent is None:
+            self.users, self.groups = (self.user,) * 3, (self.group,) * 3
 
-    def place(self, path):
-        """A path as it is outside of the folder that is this process's root (chroot(2))."""
-        return self.root + path if path.startswith(b"/") else path
+    def place(self, path: bytes, folder: str | None = None):
+        """A path as it is outside of the folder that is this process's root (chroot(2)): `..` doesn't lead above it, but from a folder
+        that isn't below it."""
+        start = (folder or self.folder).encode("latin-1")
+        if path.startswith(b"/"):
+            inner = path
+        elif self.root and (start + b"/").startswith(self.root + b"/"):
+            inner = start[len(self.root):] + b"/" + path
+        else:
+            return path
+        return self.root + posixpath.normpath(b"/" + inner.lstrip(b"/")) if self.root else path
 
-    def lowest(self, least=0):
+    def lowest(self, least: int = 0):
         """The lowest number that is free, from this one on."""
         number = least
         while number in self.table:
@@ -179,14 +210,14 @@ class Process:
             number = self.lowest(number + 1)
         return number
 
-    def lowest_numbers(self, count):
+    def lowest_numbers(self, count: int):
         """So many of the lowest numbers that are free."""
         found: list[int] = []
         while len(found) < count:
             found.append(self.lowest(found[-1] + 1 if found else 0))
         return found
 
-    def label(self):
+    def label(self) -> str:
         return f"{self.program} (pid {self.pid})"
 
 
@@ -194,7 +225,7 @@ class Process:
 class Step:
     """A line of the script: whose, its words, the kernel's reply (None where there is none to compare), and its place; the marks of
     its socket and of the other one that it concerns, with that one's name (marks.py)."""
-    seat: Seat
+    seat: Any
     words: str
     expect: str | None = None
     role: Role = Role.CALL
@@ -206,7 +237,7 @@ class Step:
     other: frozenset = frozenset()
     other_name: str | None = None
 
-    def __post_init__(self):
+    def __post_init__(self) -> None:
         # A long log says the same words over and over: each text is kept once.
         self.words = intern(self.words)
         self.expect = self.expect and intern(self.expect)
@@ -214,7 +245,8 @@ class Step:
 
 @dataclass(slots=True, eq=False)
 class Block:
-    """The lines that one call is said by, and the lines of the log within which it may stand."""
+    """The lines that one call is said by, and the lines of the log within which it may stand; what it concerns: descriptions and objects,
+    and as `context` tables of processes and names."""
     call: Any
     process: Process
     begin: float
@@ -229,26 +261,35 @@ class Block:
     snapshot: dict | None = None
     is_part: bool = False
     concerns: tuple = ()
+    context: tuple = ()
     following: tuple = ()
 
-    def concern(self, description):
+    def concern(self, description: Description) -> None:
         """Keeps what this call may depend on: a description, its peer and its object."""
         self.concerns += tuple(id(one) for one in (description, description.peer, description.thing) if one is not None)
 
-    def is_related(self, other):
-        """Whether two calls concern the same; a call without a description of its own may concern all."""
-        return not self.concerns or not other.concerns or not set(self.concerns).isdisjoint(other.concerns)
+    def overlaps(self, other: Block) -> bool:
+        """Whether two calls ran at one time, so that the log allows either order."""
+        return max(self.begin, other.begin) <= min(self.end, other.end)
 
-    def otherwise(self, why):
+    def shares(self, other: Block) -> bool:
+        """Whether two calls concern one description or object."""
+        return not set(self.concerns).isdisjoint(other.concerns)
+
+    def is_related(self, other: Block):
+        """Whether the order of two calls may count: they concern one description or object, one process's table, or one name."""
+        return self.shares(other) or not set(self.context).isdisjoint(other.context)
+
+    def otherwise(self, why: str) -> None:
         """The call is said by other words."""
         if self.how is How.AS_IT_IS:
             self.how, self.why = How.OTHERWISE, why
 
-    def leave_out(self, why):
+    def leave_out(self, why: str) -> None:
         """The call changes nothing that the layer has."""
         if not self.steps:
             self.how, self.why = How.LEFT_OUT, why
 
-    def not_at_all(self, why):
+    def not_at_all(self, why: str) -> None:
         """The call has an effect that can't be said."""
         self.how, self.why = How.NOT_AT_ALL, why

@@ -1,13 +1,17 @@
 """Reads what strace's -yy notes of a descriptor: its kind, and what tells it from others; and finds descriptors in arguments."""
+from __future__ import annotations
+
 import re
+from typing import Any
 
 from reading.words import Change, Descriptor
 from .model import Kind
 
+
 UNIX_NOTE = re.compile(r"UNIX(-\w+)?:\[(\d+)(?:->(\d+))?")
 
 
-def kind_of(note):
+def kind_of(note: str):
     """The kind of description that a note of strace's -yy tells."""
     found = UNIX_NOTE.match(note)
     if found:
@@ -17,7 +21,7 @@ def kind_of(note):
     return Kind.COUNTER if "[eventfd]" in note else Kind.OPAQUE
 
 
-def inode_of(note):
+def inode_of(note: str):
     """What tells the file or socket behind a note from others: an inode's number, or a path."""
     found = UNIX_NOTE.match(note)
     if found:
@@ -26,14 +30,14 @@ def inode_of(note):
     return note if not found or note.startswith("pipe:") else f"socket:[{found[1]}]"
 
 
-def descriptors_in(value, plain=False):
+def descriptors_in(value: Any, plain: bool = False):
     """All descriptors in a call's arguments; of a log without notes a bare number that comes first."""
     found: list[Descriptor] = []
     _collect(value, plain, found)
     return found
 
 
-def _collect(value, plain, found):
+def _collect(value: Any, plain: bool, found: list[Descriptor]) -> None:
     if isinstance(value, Descriptor):
         found.append(value)
     elif isinstance(value, (list, tuple)):

@@ -2,9 +2,16 @@
 
 What such a peer sends is known once the program receives it, and a poll may tell it before. So a log with such peers is said
 twice: the first pass keeps what was received of each, the second sends it where it was first seen."""
+from __future__ import annotations
+
 from dataclasses import dataclass, field
+from typing import TYPE_CHECKING
 
 from .model import WHOLE, Description, Kind, Process, Role
+
+if TYPE_CHECKING:
+    from .model import Block
+    from .world import World
 
 LABEL = "outside of the log"
 MOST = 1048576
@@ -28,7 +35,7 @@ class Arrival:
     """What one receive of the program took: bytes and control words, or the end."""
     data: bytes = b""
     rights: int = 0
-    credentials: tuple | None = None
+    credentials: tuple[int, int] | None = None
     is_end: bool = False
 
 
@@ -44,45 +51,45 @@ class Learnt:
 class Outside:
     """The processes that play peers. `before` is what an earlier pass learnt."""
 
-    def __init__(self, world, before):
+    def __init__(self, world: World, before: Learnt | None) -> None:
         self.world = world
         self.before = before or Learnt()
         self.learnt = Learnt()
-        self.processes = {}
+        self.processes: dict[tuple[int, int], Process] = {}
         self.count = 0
-        self.clients = {}
-        self.senders = {}
-        self.early = set()
+        self.clients: dict[int, list[Outer]] = {}
+        self.senders: dict[tuple[int, str], Outer] = {}
+        self.early: set[int] = set()
 
-    def process(self, person):
+    def process(self, person: tuple[int, int]):
         """The process of a user and group outside, or None where the script can have no more."""
         if person not in self.processes:
             process = Process(0, None, {}, "/", LABEL, user=person[0], group=person[1])
-            process.seat = self.world.new_seat(*person, process)
+            process.seat = self.world.people.new_seat(*person, process)
             if process.seat is None:
                 return None
             process.seat.privileged = True
             self.processes[person] = process
         return self.processes[person]
 
-    def line(self, block, process, words):
+    def line(self, block: Block, process: Process, words: str) -> None:
         self.world.step(block, process.seat, words, role=Role.HAND_OVER)
 
     def next_person(self):
         return self.before.people.get(self.count, (0, 0))
 
-    def take(self, process):
+    def take(self, process: Process):
         """The lowest free number of a process outside, which is taken."""
         number = process.lowest()
         process.table[number] = True
         return number
 
-    def new(self, process, number, kind):
+    def new(self, process: Process, number: int, kind: Kind):
         outer = Outer(self.count, process, number, kind)
         self.count += 1
         return outer
 
-    def meet(self, block, kind, word):
+    def meet(self, block: Block, kind: Kind, word: str):
         """A socket outside at a name, to which a socket of the log connects or sends; None where there can't be one."""
         process = self.process(self.next_person())
         if process is None:
@@ -97,14 +104,14 @@ class Outside:
         self.world.names.bound[word] = description
         return description
 
-    def accept(self, block, listener, client):
+    def accept(self, block: Block, listener: Description, client: Description) -> None:
         """The end outside of a connection that the log's client just made."""
         process = listener.outer.process
         number = self.take(process)
         self.line(block, process, f"accept {listener.outer.number} -")
         client.outer = self.new(process, number, listener.kind)
 
-    def connect(self, block, listener, word):
+    def connect(self, block: Block, listener: Description, word: str):
         """A client outside connects to a listener of the log; the answer is its end, or None."""
         process = self.process(self.next_person())
         if process is None or not listener.name:
@@ -117,17 +124,17 @@ class Outside:
         block.otherwise("a peer outside of the log, which another process of the script plays")
         return self.new(process, number, listener.kind)
 
-    def client_of(self, block, listener, word):
+    def client_of(self, block: Block, listener: Description, word: str):
         """The next client outside of a listener: one that a poll told already, or a new one."""
         waiting = self.clients.setdefault(id(listener), [])
         self.learnt.clients.setdefault(self.key(listener), []).append(word)
         return waiting.pop(0) if waiting else self.connect(block, listener, word)
 
     @staticmethod
-    def key(listener):
+    def key(listener: Description):
         return listener.inode or listener.name
 
-    def told(self, block, description, hangs_up=False):
+    def told(self, block: Block, description: Description, hangs_up: bool = False) -> None:
         """A poll tells something to receive: what comes next is sent now, where an earlier pass knows it."""
         if hangs_up and description.outer is not None and description.kind is not Kind.DATAGRAM:
             self.close(block, description.outer)
@@ -143,7 +150,7 @@ class Outside:
                 self.send(block, outer, arrival)
                 outer.is_early = True
 
-    def told_client(self, block, listener):
+    def told_client(self, block: Block, listener: Description) -> None:
         known = self.before.clients.get(self.key(listener), [])
         done = len(self.learnt.clients.get(self.key(listener), []))
         waiting = self.clients.setdefault(id(listener), [])
@@ -152,14 +159,14 @@ class Outside:
             if outer:
                 waiting.append(outer)
 
-    def told_datagram(self, block, description):
+    def told_datagram(self, block: Block, description: Description) -> None:
         known = self.before.datagrams.get(self.key(description), [])
         done = len(self.learnt.datagrams.get(self.key(description), []))
         if not description.pending and id(description) not in self.early and done < len(known):
             self.send_datagram(block, description, *known[done])
             self.early.add(id(description))
 
-    def datagram(self, block, description, sender, arrival, peek):
+    def datagram(self, block: Block, description: Description, sender: str, arrival: Arrival, peek: bool) -> None:
         """Before a receive of a datagram that nobody in the log sent."""
         if peek:
             self.told_datagram(block, description)
@@ -170,8 +177,8 @@ class Outside:
         else:
             self.send_datagram(block, description, sender, arrival)
 
-    def send_datagram(self, block, description, sender, arrival):
-        process = self.process((arrival.credentials or (0, 0))[:2])
+    def send_datagram(self, block: Block, description: Description, sender: str, arrival: Arrival) -> None:
+        process = self.process(arrival.credentials or (0, 0))
         if process is None:
             return
         key = (id(description), sender)
@@ -185,7 +192,7 @@ class Outside:
         self.send(block, self.senders[key], arrival)
         block.otherwise("a peer outside of the log, which another process of the script plays")
 
-    def received(self, block, description, arrival, peek):
+    def received(self, block: Block, description: Description, arrival: Arrival, peek: bool) -> None:
         """Before a receive of the program that took this: it is sent, where no poll told it already."""
         outer = description.outer
         if peek:
@@ -200,7 +207,7 @@ class Outside:
         outer.received += 1
         block.otherwise("a peer outside of the log, which another process of the script plays")
 
-    def send(self, block, outer, arrival):
+    def send(self, block: Block, outer: Outer, arrival: Arrival) -> None:
         if outer.is_closed:
             return
         if arrival.is_end:
@@ -212,7 +219,7 @@ class Outside:
             right = process.lowest()
             self.line(block, process, "open p:~outside rw -")
             parts.append("r:" + ",".join([str(right)] * arrival.rights))
-        if arrival.credentials:
+        if arrival.credentials and process.seat:
             parts.append(f"c:\0{process.seat.key}\0,{arrival.credentials[0]},{arrival.credentials[1]}")
         control = "+".join(parts) or "-"
         data = arrival.data
@@ -223,14 +230,14 @@ class Outside:
         if arrival.rights:
             self.line(block, process, f"close {right}")
 
-    def close(self, block, outer):
+    def close(self, block: Block, outer: Outer) -> None:
         """The peer is gone."""
         if not outer.is_closed:
             outer.is_closed = True
             self.line(block, outer.process, f"close {outer.number}")
             outer.process.table.pop(outer.number, None)
 
-    def drain(self, block, outer, count):
+    def drain(self, block: Block, outer: Outer, count: int) -> None:
         """What the program sent is received outside, so that there is room for more; rights are closed."""
         if not outer.is_closed:
             for _ in range(count):

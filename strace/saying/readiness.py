@@ -1,11 +1,20 @@
 """Says poll, select and epoll as several polls of one descriptor each."""
+from __future__ import annotations
+
 import re
+from typing import TYPE_CHECKING, Any
 
 from reading.words import after, arguments, flags_of, number_of
 from . import doubts
 from .descriptors import on_unix
 from .model import Kind
 from .world import HIGHEST, says
+
+if TYPE_CHECKING:
+    from reading.calls import Result
+    from reading.words import Arguments
+    from .model import Block, Process
+    from .world import World
 
 BITS = {"POLLIN": "IN", "POLLOUT": "OUT", "POLLRDHUP": "RDHUP", "POLLHUP": "HUP", "POLLERR": "ERR", "POLLNVAL": "NVAL",
         "EPOLLIN": "IN", "EPOLLOUT": "OUT", "EPOLLRDHUP": "RDHUP", "EPOLLHUP": "HUP", "EPOLLERR": "ERR",
@@ -15,15 +24,15 @@ GIVES = {"IN", "HUP", "RDHUP"}
 ALWAYS = {"HUP", "ERR", "NVAL"}
 
 
-def conditions(flags):
+def conditions(flags: set[str]):
     return {BITS[flag] for flag in flags if flag in BITS}
 
 
-def tell(found):
+def tell(found: set[str]):
     return "poll " + ("|".join(bit for bit in ORDER if bit in found) or "-")
 
 
-def ask(world, block, process, number, asked, found):
+def ask(world: World, block: Block, process: Process, number: int, asked: set[str], found: set[str]) -> bool:
     """One poll of a descriptor that the layer has; the answer is whether it was said."""
     slot = process.table.get(number)
     if slot is None or slot.description.kind is Kind.OPAQUE or number > HIGHEST:
@@ -39,7 +48,7 @@ def ask(world, block, process, number, asked, found):
     return True
 
 
-def conclude(block, said, name):
+def conclude(block: Block, said: bool, name: str) -> None:
     if said:
         block.otherwise(f"{name} as several polls")
     elif block.unknown:
@@ -48,7 +57,7 @@ def conclude(block, said, name):
         block.leave_out(f"{name} of opaque objects")
 
 
-def ended_early(block, result):
+def ended_early(block: Block, result: Result) -> bool:
     if result.error or result.value is None:
         block.leave_out(f"{block.call.name} ended by a signal" if result.value is None or result.error == "EINTR"
                         else f"{block.call.name} that failed")
@@ -57,7 +66,7 @@ def ended_early(block, result):
 
 
 @says("poll", "ppoll")
-def say_poll(world, block, process, args, result):
+def say_poll(world: World, block: Block, process: Process, args: Arguments, result: Result) -> None:
     if ended_early(block, result):
         return
     asked: dict[int, set] = {}
@@ -76,7 +85,7 @@ def say_poll(world, block, process, args, result):
     conclude(block, said, "poll")
 
 
-def reported(detail):
+def reported(detail: str):
     """The list that strace writes behind a result, in round brackets."""
     if not detail.startswith("(["):
         return []
@@ -85,10 +94,10 @@ def reported(detail):
 
 
 @says("select", "pselect6", "_newselect")
-def say_select(world, block, process, args, result):
+def say_select(world: World, block: Block, process: Process, args: Arguments, result: Result) -> None:
     if ended_early(block, result):
         return
-    sets = [{number_of(one) for one in after(value)} if isinstance(after(value), list) else set() for value in args[1:4]]
+    sets = [{number_of(one) for one in after(value)} if isinstance(after(value), list) else set() for value in (args[1], args[2], args[3])]
     ready = [told_set(result.detail, word) for word in ("in", "out")]
     if result.value != sum(map(len, [*ready, told_set(result.detail, "except")])):
         world.doubts.add(doubts.COUNT, block)
@@ -105,13 +114,13 @@ def say_select(world, block, process, args, result):
     conclude(block, said, "select")
 
 
-def told_set(detail, word):
+def told_set(detail: str, word: str):
     found = re.search(rf"\b{word} \[([^\]]*)\]", detail)
     return {int(number) for number in re.findall(r"(?<![\w<\[])(\d+)", found[1])} if found else set()
 
 
 @says("epoll_ctl")
-def say_epoll_ctl(world, block, process, args, result):
+def say_epoll_ctl(world: World, block: Block, process: Process, args: Arguments, result: Result) -> None:
     slot = process.table.get(number_of(args[0], -1))
     number = number_of(args[2], -1)
     on_unix(block, process.table.get(number))
@@ -126,13 +135,13 @@ def say_epoll_ctl(world, block, process, args, result):
     block.leave_out("epoll_ctl")
 
 
-def data_key(event):
+def data_key(event: Any):
     data = after(event.get("data"))
     return data.get("u64") if isinstance(data, dict) else data
 
 
 @says("epoll_wait", "epoll_pwait", "epoll_pwait2")
-def say_epoll_wait(world, block, process, args, result):
+def say_epoll_wait(world: World, block: Block, process: Process, args: Arguments, result: Result) -> None:
     if ended_early(block, result):
         return
     slot = process.table.get(number_of(args[0], -1))

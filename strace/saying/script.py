@@ -1,9 +1,16 @@
 """Writes a script: the blocks in their order, the processes numbered, and the header that they need, `serial` first."""
+from __future__ import annotations
+
 import re
 from dataclasses import dataclass
 from sys import intern
+from typing import TYPE_CHECKING
 
-from .world import MOST_OBJECTS, OUTSIDE
+from .objects import MOST_OBJECTS, OUTSIDE
+
+if TYPE_CHECKING:
+    from .model import Block, Seat
+    from .world import World
 
 MARK = re.compile("\0(\\d+)\0")
 LIMIT = 4096
@@ -18,7 +25,7 @@ class Script:
     steps: list
     seats: dict
 
-    def text(self, count=None):
+    def text(self, count: int | None = None):
         lines = self.lines if count is None else self.lines[:count]
         return "\n".join([*self.header, *lines]) + "\n"
 
@@ -32,23 +39,23 @@ class Script:
         return "\n".join(parts) + "\n"
 
 
-def header_of(world):
+def header_of(world: World):
     objects = [f"object {OUTSIDE} mem -"]
-    objects += [f"object {thing.name} {thing.kind.value}{' -' if thing.kind.value == 'mem' else ''}" for thing in world.things]
-    room = MOST_OBJECTS - len(objects) - world.made_count
+    objects += [f"object {thing.name} {thing.kind.value}{' -' if thing.kind.value == 'mem' else ''}" for thing in world.objects.things]
+    room = MOST_OBJECTS - len(objects) - world.objects.made
     objects += [f"object {word} mem -" for word in dict.fromkeys(world.names.files[:room])]
     lines = ["serial", *objects]
-    seats = [seat for seat in world.seats if not seat.forked]
+    seats = [seat for seat in world.people.seats if not seat.forked]
     for number, seat in enumerate(seats, 1):
         seat.number = number
         lines.append(f"proc {seat.user} {seat.group} {1 if seat.user == 0 or seat.privileged else 0} {LIMIT}")
     return lines, len(seats)
 
 
-def write_script(world, blocks):
+def write_script(world: World, blocks: list[Block]):
     """The script of blocks in this order."""
     header, count = header_of(world)
-    by_key = {seat.key: seat for seat in world.seats}
+    by_key = {seat.key: seat for seat in world.people.seats}
     lines, steps = [], []
     for block in blocks:
         for step in block.steps:
@@ -61,7 +68,7 @@ def write_script(world, blocks):
     return Script(header, lines, steps, by_key)
 
 
-def numbered(text, by_key):
+def numbered(text: str, by_key: dict[int, Seat]):
     """A text in which each process has its number in the script."""
     if "\0" not in text:
         return text

@@ -1,27 +1,46 @@
 """Says sends and writes, of sockets, pipes, counters and memory files, and the rights that go with them."""
-from reading.words import after, flags_of, number_of
-from .contents import PIECE, data_of, hexadecimal, hidden, sayable
+from __future__ import annotations
+
+from dataclasses import dataclass
+from typing import TYPE_CHECKING, Any, Callable
+
+from reading.calls import Result
+from reading.words import after, fields_of, flags_of, list_of, number_of
+from .contents import PIECE, data_of, hexadecimal, sayable
 from .descriptors import FORGETS, note_of
-from .model import WHOLE, Kind
+from .limits import may_write
+from .model import WHOLE, Kind, Message, Slot
 from .sockets import address, outside
 from .world import HIGHEST, says
+
+if TYPE_CHECKING:
+    from reading.words import Arguments
+    from .model import Block, Description, Process
+    from .world import World
 
 KERNEL_PIECE = 32768
 SEND_SKIPS = {"MSG_NOSIGNAL", "MSG_MORE", "MSG_CONFIRM", "MSG_BATCH"}
 
 
 @says("write", "writev")
-def say_write(world, block, process, args, result):
+def say_write(world: World, block: Block, process: Process, args: Arguments, result: Result) -> None:
     slot = sayable(world, block, process, args[0], block.call.name)
     if slot is None or outside(block, result):
         return
     data = data_of(world, args[1], result.value if result.error == "" else number_of(args[-1], 0))
     if block.call.name == "writev":
         block.otherwise("writev as write")
+    if slot.description.kind is Kind.MEMORY and not may_write(world, block, slot, end_of_write(slot.description, len(data)), result):
+        return
     put(world, block, process, number_of(args[0]), slot.description, data, result, lambda piece: f"write {number_of(args[0])} {piece}")
 
 
-def fits(description, count):
+def end_of_write(description: Description, count: int):
+    """The offset behind a write of so many bytes to a memory file."""
+    return (description.thing.size if description.append else description.offset) + count
+
+
+def fits(description: Description, count: int) -> bool:
     """Whether so many bytes find room at once, as far as the log tells what is unread."""
     if description.kind in (Kind.DATAGRAM, Kind.RECORDS):
         return True
@@ -29,7 +48,8 @@ def fits(description, count):
     return unread + count <= WHOLE
 
 
-def put(world, block, process, number, description, data, result, words_of, target=None):
+def put(world: World, block: Block, process: Process, number: int, description: Description, data: bytes, result: Result,
+        words_of: Callable[[str], str], target: Description | None = None) -> bool:
     """Sends bytes, in pieces where the layer hasn't room for all; the answer is whether it did so."""
     if result.error:
         if result.error == "EPIPE" and description.outer is not None:
@@ -37,7 +57,7 @@ def put(world, block, process, number, description, data, result, words_of, targ
         world.step(block, process.seat, words_of(hexadecimal(data[:WHOLE])), f"err {result.error}", description, other=target)
         return False
     data = data[:result.value] if description.kind is Kind.STREAM or not description.kind.is_socket else data
-    told = result.value
+    told = result.number
     if description.kind in (Kind.DATAGRAM, Kind.RECORDS) and len(data) > WHOLE:
         told -= len(data) - WHOLE
         data = data[:WHOLE]
@@ -56,34 +76,37 @@ def put(world, block, process, number, description, data, result, words_of, targ
     reached = target or description.peer
     if reached is not None:
         reached.pending += 1
-        reached.senders.append(description)
+        if description.kind is not Kind.STREAM:
+            reached.messages.append(Message(description, result.number))
     if description.outer is not None:
         world.outside.drain(block, description.outer, len(pieces))
     return len(pieces) > 1
 
 
-def fill(description, count, goes_on):
-    """Keeps how many bytes wait now: a further message of a socket or more of the same, or more in a pipe."""
-    if description.thing is not None:
-        description.thing.level += count
+def fill(description: Description, count: int, goes_on: bool) -> None:
+    """Keeps how many bytes wait now: a further message of a socket or more of the same, more in a pipe, or a memory file that is longer."""
+    thing = description.thing
+    if description.kind is Kind.MEMORY:
+        description.offset = end_of_write(description, count)
+        thing.size = max(thing.size, description.offset)
+    elif thing is not None:
+        thing.level += count
     elif description.outer is None and (description.kind is Kind.RECORDS or description.kind is Kind.STREAM and count):
         if not goes_on:
             description.unread.append(0)
         description.unread[-1] += count
 
 
-def control_of(world, block, process, items):
+def control_of(world: World, block: Block, process: Process, items: Any):
     """The control word of a send: rights of all items as one, then credentials."""
     rights, credentials, count = [], None, 0
-    for item in after(items) or []:
-        if not isinstance(item, dict):
-            continue
+    for item in map(fields_of, list_of(items)):
         kind, data = str(item.get("cmsg_type")), after(item.get("cmsg_data"))
         if kind == "SCM_RIGHTS" and isinstance(data, list):
             count += 1
             rights += [right(world, block, process, value) for value in data]
         elif kind == "SCM_CREDENTIALS" and isinstance(data, dict):
-            credentials = f"c:{world.person(data.get('pid'), True)},{data.get('uid')},{data.get('gid')}"
+            credentials = f"c:{world.people.word_of(data.get('pid'), True)},{data.get('uid')},{data.get('gid')}"
         else:
             block.otherwise(f"without the item {kind}")
     if count > 1:
@@ -92,34 +115,56 @@ def control_of(world, block, process, items):
     return "+".join(words) or "-", rights
 
 
-def right(world, block, process, value):
+def right(world: World, block: Block, process: Process, value: Any):
     number = number_of(value, -1)
     world.slot(block, process, number, note_of(value))
     return number if 0 <= number <= HIGHEST else FORGETS
 
 
-def fly(world, block, process, rights, goes_outside):
+def fly(world: World, block: Block, process: Process, rights: list[int], goes_outside: bool) -> None:
     """Keeps which descriptions are on their way in messages to processes of the log."""
     for number in rights:
         slot = process.table.get(number)
         if slot:
+            block.concern(slot.description)
             if not goes_outside:
-                world.in_flight.append((slot.description, block))
+                world.objects.in_flight.append((slot.description, block))
                 slot.description.flying += 1
             if slot.description.thing is not None:
                 slot.description.thing.sent = True
 
 
-def send(world, block, process, number, slot, data, where, items, flags, result):
-    """One message, whichever call sends it."""
-    if "MSG_OOB" in flags:
-        world.make_unknown(slot.description, "out-of-band data was sent (MSG_OOB)")
+@dataclass
+class Sent:
+    """One message: the descriptor, its bytes, the address that it is sent to and its control items as the log has them, and flags."""
+    number: int
+    slot: Slot
+    data: bytes
+    result: Result
+    flags: set
+    where: Any = None
+    items: Any = None
+
+
+def send_aside(world: World, block: Block, one: Sent) -> None:
+    """Out-of-band data, which the layer doesn't have."""
+    if one.result.error:
+        block.leave_out("MSG_OOB that failed")
+    else:
+        world.make_unknown(one.slot.description, "out-of-band data was sent (MSG_OOB)")
         block.not_at_all("MSG_OOB")
+
+
+def send(world: World, block: Block, process: Process, one: Sent) -> None:
+    """One message, whichever call sends it."""
+    slot, result = one.slot, one.result
+    if "MSG_OOB" in one.flags:
+        send_aside(world, block, one)
         return
-    if flags & SEND_SKIPS:
-        block.otherwise(f"without {sorted(flags & SEND_SKIPS)[0]}")
-    control, rights = control_of(world, block, process, items)
-    word = address(world, process, where) if isinstance(after(where), dict) else "-"
+    if one.flags & SEND_SKIPS:
+        block.otherwise(f"without {sorted(one.flags & SEND_SKIPS)[0]}")
+    control, rights = control_of(world, block, process, one.items)
+    word = address(world, process, one.where) if isinstance(after(one.where), dict) else "-"
     if word is None:
         block.leave_out("a send to an address of another family")
         return
@@ -127,53 +172,54 @@ def send(world, block, process, number, slot, data, where, items, flags, result)
         if world.outside.meet(block, slot.description.kind, word) is None:
             block.not_at_all("a peer outside of the log")
             return
-    letters = "d" if "MSG_DONTWAIT" in flags else "-"
+    letters = "d" if "MSG_DONTWAIT" in one.flags else "-"
     first = [control]
 
-    def words_of(piece):
-        return f"send {number} {word} {piece} {first.pop() if first else '-'} {letters}"
+    def words_of(piece: str) -> str:
+        return f"send {one.number} {word} {piece} {first.pop() if first else '-'} {letters}"
     target = world.names.bound.get(word)
-    in_pieces = put(world, block, process, number, slot.description, data, result, words_of, target)
+    in_pieces = put(world, block, process, one.number, slot.description, one.data, result, words_of, target)
     if not result.error and target is not None and target.outer is not None:
         world.outside.drain(block, target.outer, 1)
     if not result.error:
-        goes_outside = any(one is not None and one.outer is not None for one in (target, slot.description))
+        goes_outside = any(end is not None and end.outer is not None for end in (target, slot.description))
         fly(world, block, process, rights, goes_outside)
-        slot.description.is_split = slot.description.is_split or bool(rights) and (in_pieces or len(data) > KERNEL_PIECE)
+        slot.description.is_split = slot.description.is_split or bool(rights) and (in_pieces or len(one.data) > KERNEL_PIECE)
 
 
 @says("sendto", "send")
-def say_sendto(world, block, process, args, result):
+def say_sendto(world: World, block: Block, process: Process, args: Arguments, result: Result) -> None:
     slot = sayable(world, block, process, args[0], "sendto")
     if slot is None or outside(block, result):
         return
     data = data_of(world, args[1], number_of(args[2], 0))
-    send(world, block, process, number_of(args[0]), slot, data, args[4] if len(args) > 4 else None, None, flags_of(args[3]), result)
+    send(world, block, process, Sent(number_of(args[0]), slot, data, result, flags_of(args[3]), args[4] if len(args) > 4 else None))
 
 
 @says("sendmsg")
-def say_sendmsg(world, block, process, args, result):
+def say_sendmsg(world: World, block: Block, process: Process, args: Arguments, result: Result) -> None:
     slot = sayable(world, block, process, args[0], "sendmsg")
     if slot is None or outside(block, result):
         return
     send_message(world, block, process, number_of(args[0]), slot, after(args[1]), flags_of(args[2]), result)
 
 
-def send_message(world, block, process, number, slot, message, flags, result):
+def send_message(world: World, block: Block, process: Process, number: int, slot: Slot, message: Any, flags: set[str],
+                 result: Result) -> None:
     if not isinstance(message, dict):
-        hidden(world, block, slot, "a message that the log doesn't show")
+        world.lose(block, slot.description, "a message that the log doesn't show")
         return
     data = data_of(world, message.get("msg_iov"))
-    send(world, block, process, number, slot, data, message.get("msg_name"), message.get("msg_control"), flags, result)
+    send(world, block, process, Sent(number, slot, data, result, flags, message.get("msg_name"), message.get("msg_control")))
 
 
 @says("sendmmsg")
-def say_sendmmsg(world, block, process, args, result):
+def say_sendmmsg(world: World, block: Block, process: Process, args: Arguments, result: Result) -> None:
     slot = sayable(world, block, process, args[0], "sendmmsg")
     if slot is None or outside(block, result):
         return
-    messages = after(args[1]) or []
-    for one in messages if result.error else messages[:result.value]:
+    messages = list_of(args[1])
+    for one in map(fields_of, messages if result.error else messages[:result.value]):
         message = one.get("msg_hdr", one)
         length = number_of(one.get("msg_len"), 0)
         answer = result if result.error else type(result)(length)

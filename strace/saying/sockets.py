@@ -1,6 +1,11 @@
 """Says the calls that make, name and connect sockets, and their options."""
+from __future__ import annotations
+
+from typing import TYPE_CHECKING, Any, Sequence
+
 from reading.effects import OUTSIDE_ERRORS
-from reading.words import Change, Descriptor, Text, after, flags_of, number_of
+from reading.words import Change, Descriptor, Text, after, fields_of, flags_of, number_of
+from .amounts import BUFFERS, say_buffer
 from .descriptors import make_pidfd, note_of, on_unix
 from .marks import inherit
 from .model import Description, Kind, Slot
@@ -8,24 +13,29 @@ from .names import spell
 from .notes import inode_of
 from .world import HIGHEST, says
 
+if TYPE_CHECKING:
+    from reading.calls import Result
+    from reading.words import Arguments
+    from .model import Block, Process
+    from .world import World
+
 TYPES = {"SOCK_STREAM": Kind.STREAM, "SOCK_DGRAM": Kind.DATAGRAM, "SOCK_RAW": Kind.DATAGRAM, "SOCK_SEQPACKET": Kind.RECORDS}
 WAYS = {"SHUT_RD": "r", "SHUT_WR": "w", "SHUT_RDWR": "rw"}
 OPTIONS = {"SO_TYPE": "type", "SO_ERROR": "error", "SO_PASSCRED": "passcred", "SO_PEERCRED": "peercred", "SO_ACCEPTCONN": "accept"}
-SEND_BUFFERS = ("SO_SNDBUF", "SO_SNDBUFFORCE")
 PEEK_OFFSET = ("SO_PEEK_OFF", 42)
 PEER_PIDFD = ("SO_PEERPIDFD", 77)
 PLAYED = "a peer outside of the log, which another process of the script plays"
 NUMBERS = {"SOCK_STREAM": 1, "SOCK_DGRAM": 2, "SOCK_SEQPACKET": 5, "ECONNRESET": 20, "104": 20}
 
 
-def socket_of(world, block, process, value):
+def socket_of(world: World, block: Block, process: Process, value: Any):
     """The slot of a descriptor where it is a socket of the layer; marks the call as one on AF_UNIX."""
     slot = world.slot(block, process, number_of(value, -1), note_of(value))
     on_unix(block, slot)
     return slot if slot and slot.description.kind.is_socket else None
 
 
-def address(world, process, value):
+def address(world: World, process: Process, value: Any):
     """An address as a script writes it, or None where it is of another family."""
     value = after(value)
     if not isinstance(value, dict) or value.get("sa_family") not in ("AF_UNIX", "AF_LOCAL"):
@@ -38,12 +48,15 @@ def address(world, process, value):
     return world.names.word_of_path(process.folder, process.place(path.data))
 
 
-def told_address(world, process, value, length=None):
-    """An address as a reply tells it; ? where the log doesn't have it. `length` is what the call was given for it."""
+def told_address(world: World, process: Process, value: Any, length: Any = None, whose: Description | None = None):
+    """An address as a reply tells it; ? where the log doesn't have it. `length` is what the call was given for it, `whose` the socket
+    that it should be the address of: two may have been bound by the same spelling, in two folders or below two roots."""
     value = after(value)
     if not isinstance(value, dict):
         return "?"
     path = value.get("sun_path")
+    if whose is not None and isinstance(path, Text) and not path.abstract and is_spelled(whose, path.data, is_cut(length)):
+        return whose.name
     if is_cut(length):
         return world.names.beginning_with(path.data, path.abstract) if isinstance(path, Text) else "?"
     if isinstance(path, Text) and not path.abstract:
@@ -51,16 +64,23 @@ def told_address(world, process, value, length=None):
     return address(world, process, value) or "?"
 
 
-def is_cut(length):
+def is_spelled(whose: Description, data: bytes, cut: bool):
+    """Whether a socket's bind gave a path that is told, or that begins with what is told of it."""
+    if whose.spelling is None:
+        return False
+    return whose.spelling.startswith(data) if cut else whose.spelling == data
+
+
+def is_cut(length: Any) -> bool:
     """Whether an address has more bytes than the buffer that it came in, as strace tells by `[11 => 19]`."""
     length = length[0] if isinstance(length, list) and length else length
     if not isinstance(length, Change):
         return False
-    room, whole = number_of(length.before), number_of(length.after)
+    room, whole = number_of(length.before, None), number_of(length.after, None)
     return room is not None and whole is not None and room < whole
 
 
-def skipped(block, description, number):
+def skipped(block: Block, description: Description, number: int) -> bool:
     """Whether a call on a description can't be said, which its block then knows."""
     if number > HIGHEST:
         block.not_at_all("a descriptor above 4,095")
@@ -72,7 +92,7 @@ def skipped(block, description, number):
     return True
 
 
-def outside(block, result):
+def outside(block: Block, result: Result) -> bool:
     """Whether a call failed for what the layer doesn't have."""
     if result.value is None or result.error in OUTSIDE_ERRORS:
         block.leave_out("ended by a signal" if result.value is None or result.error == "EINTR" or "RESTART" in result.error
@@ -82,7 +102,7 @@ def outside(block, result):
 
 
 @says("socket")
-def say_socket(world, block, process, args, result):
+def say_socket(world: World, block: Block, process: Process, args: Arguments, result: Result) -> None:
     flags = flags_of(args[1])
     kind = next((TYPES[flag] for flag in flags if flag in TYPES), None)
     if result.error or result.value is None:
@@ -101,15 +121,15 @@ def say_socket(world, block, process, args, result):
     world.make(block, process, result.value, description, on_exec, words)
 
 
-def new_socket(world, kind, flags, note):
+def new_socket(world: World, kind: Kind, flags: set[str], note: str):
     description = Description(kind, "a socket", nonblocking="SOCK_NONBLOCK" in flags, inode=inode_of(note) if note else "", mode="rw")
     if description.inode:
-        world.by_inode[description.inode] = description
+        world.objects.by_inode[description.inode] = description
     return description
 
 
 @says("socketpair")
-def say_pair(world, block, process, args, result):
+def say_pair(world: World, block: Block, process: Process, args: Arguments, result: Result) -> None:
     flags = flags_of(args[1])
     kind = next((TYPES[flag] for flag in flags if flag in TYPES), None)
     if result.error or kind is None:
@@ -130,7 +150,7 @@ def say_pair(world, block, process, args, result):
     make_two(world, block, process, f"pair {kind.value}", (first, second), [number_of(end) for end in ends], "SOCK_CLOEXEC" in flags)
 
 
-def two_numbers(process, value):
+def two_numbers(process: Process, value: Any):
     """Both descriptors that a call made; where strace couldn't read them, the two lowest free numbers."""
     value = after(value)
     if isinstance(value, list) and len(value) == 2:
@@ -138,7 +158,8 @@ def two_numbers(process, value):
     return [Descriptor(number) for number in process.lowest_numbers(2)]
 
 
-def make_two(world, block, process, words, made, numbers, on_exec):
+def make_two(world: World, block: Block, process: Process, words: str, made: Sequence[Description], numbers: list[int],
+             on_exec: bool) -> None:
     """A call that gives two numbers at once."""
     for number in numbers:
         if number in process.table:
@@ -156,7 +177,7 @@ def make_two(world, block, process, words, made, numbers, on_exec):
 
 
 @says("bind")
-def say_bind(world, block, process, args, result):
+def say_bind(world: World, block: Block, process: Process, args: Arguments, result: Result) -> None:
     slot = socket_of(world, block, process, args[0])
     if slot is None:
         block.leave_out("bind of another family")
@@ -176,10 +197,16 @@ def say_bind(world, block, process, args, result):
         world.names.bound[word] = None
     world.step(block, process.seat, f"bind {number} {word}", f"err {result.error}" if result.error else "ok", description, other=holder)
     if not result.error and not (word == "u" and description.name):
-        description.name = word
+        description.name, description.spelling = word, spelling_of(args[1])
 
 
-def unseen_address(world, block, description, result):
+def spelling_of(value: Any):
+    """The path of an address as a call spells it, or None."""
+    path = fields_of(value).get("sun_path")
+    return path.data if isinstance(path, Text) and not path.abstract else None
+
+
+def unseen_address(world: World, block: Block, description: Description, result: Result) -> None:
     """An address of another family, or one that strace couldn't read: where the call went well, its effect isn't known."""
     if result.error:
         block.leave_out(f"{block.call.name} that failed, to an address that the log doesn't show")
@@ -189,16 +216,16 @@ def unseen_address(world, block, description, result):
     block.not_at_all(why)
 
 
-def bind_word(world, block, process, value, description, result):
+def bind_word(world: World, block: Block, process: Process, value: Any, description: Description, result: Result):
     """The name to bind to: for autobind the one that the kernel gave, where the log shows it."""
     word = address(world, process, value)
     if word == "u" and not result.error and not description.name:
-        given = world.automatic.get(description.inode[8:-1])
+        given = world.names.automatic.get(description.inode[8:-1])
         if given:
             block.otherwise("autobind by the name that the kernel gave")
             return f"a:{given}"
     if word and word.startswith("p:") and not result.error:
-        path = after(value)["sun_path"].data
+        path = spelling_of(value)
         return world.names.bind(process.folder, process.place(path), description, path)
     if word and word.startswith("a:") and not result.error:
         world.names.bound[word] = description
@@ -206,7 +233,7 @@ def bind_word(world, block, process, value, description, result):
 
 
 @says("listen")
-def say_listen(world, block, process, args, result):
+def say_listen(world: World, block: Block, process: Process, args: Arguments, result: Result) -> None:
     slot = socket_of(world, block, process, args[0])
     if slot is None:
         inet = process.table.get(number_of(args[0], -1))
@@ -225,7 +252,7 @@ def say_listen(world, block, process, args, result):
 
 
 @says("connect")
-def say_connect(world, block, process, args, result):
+def say_connect(world: World, block: Block, process: Process, args: Arguments, result: Result) -> None:
     slot = socket_of(world, block, process, args[0])
     if slot is None:
         block.leave_out("connect of another family")
@@ -261,7 +288,7 @@ def say_connect(world, block, process, args, result):
             connect_outside(world, block, description, target)
 
 
-def connect_outside(world, block, description, target):
+def connect_outside(world: World, block: Block, description: Description, target: Description) -> None:
     """The peer outside of a socket that was just connected."""
     description.what += ", outside of the log"
     if description.kind is Kind.DATAGRAM:
@@ -272,7 +299,7 @@ def connect_outside(world, block, description, target):
     block.otherwise(PLAYED)
 
 
-def tie(description, target, ends):
+def tie(description: Description, target: Description, ends: bool) -> None:
     """What a connect leaves: a connection that waits, or an association."""
     if description.kind is Kind.DATAGRAM:
         description.peer, description.phase = (None, "idle") if ends else (target, "tied")
@@ -283,7 +310,7 @@ def tie(description, target, ends):
 
 
 @says("accept", "accept4")
-def say_accept(world, block, process, args, result):
+def say_accept(world: World, block: Block, process: Process, args: Arguments, result: Result) -> None:
     slot = socket_of(world, block, process, args[0])
     if slot is None:
         say_accept_elsewhere(world, block, process, args, result)
@@ -298,24 +325,26 @@ def say_accept(world, block, process, args, result):
     made = new_socket(world, listener.kind, flags, result.note)
     made.phase, made.name, made.what = "tied", listener.name, f"a connection accepted at {listener.name[2:] or 'a listener'}"
     on_exec = "SOCK_CLOEXEC" in flags
-    told = told_address(world, process, args[1], args[2])
+    made.spelling = listener.spelling
+    told = told_address(world, process, args[1], args[2], listener.waiting[0] if listener.waiting else None)
     if not listener.unknown and not listener.waiting:
         made.outer = world.outside.client_of(block, listener, told)
         made.what += ", its client outside of the log"
     if listener.unknown or not listener.waiting and made.outer is None:
         made.unknown = listener.unknown or "its peer is outside of the log"
-        world.make(block, process, result.value, made, on_exec)
+        world.make(block, process, result.number, made, on_exec)
         block.not_at_all(made.unknown)
         return
     if made.outer is None:
         made.peer = listener.waiting.pop(0)
         made.peer.peer = made
     inherit(made, listener)
+    block.concern(listener)
     form = "accepted {} " + told
-    world.make(block, process, result.value, made, on_exec, f"accept {number} {world.letters(made, on_exec)}", form, other=made.peer)
+    world.make(block, process, result.number, made, on_exec, f"accept {number} {world.letters(made, on_exec)}", form, other=made.peer)
 
 
-def say_accept_elsewhere(world, block, process, args, result):
+def say_accept_elsewhere(world: World, block: Block, process: Process, args: Arguments, result: Result) -> None:
     if result.error or result.value is None:
         block.leave_out("accept of another family")
         return
@@ -327,7 +356,7 @@ def say_accept_elsewhere(world, block, process, args, result):
 
 
 @says("shutdown")
-def say_shutdown(world, block, process, args, result):
+def say_shutdown(world: World, block: Block, process: Process, args: Arguments, result: Result) -> None:
     slot = socket_of(world, block, process, args[0])
     if slot is None:
         block.leave_out("shutdown of another family")
@@ -343,7 +372,7 @@ def say_shutdown(world, block, process, args, result):
 
 
 @says("getsockname", "getpeername")
-def say_name(world, block, process, args, result):
+def say_name(world: World, block: Block, process: Process, args: Arguments, result: Result) -> None:
     slot = socket_of(world, block, process, args[0])
     if slot is None:
         block.leave_out(f"{block.call.name} of another family")
@@ -351,18 +380,21 @@ def say_name(world, block, process, args, result):
     if outside(block, result) or skipped(block, slot.description, number_of(args[0])):
         return
     word = "sockname" if block.call.name == "getsockname" else "peername"
-    told = f"err {result.error}" if result.error else f"addr {told_address(world, process, args[1], args[2])}"
     other = slot.description.peer if word == "peername" else None
+    whose = other if word == "peername" else slot.description
+    told = f"err {result.error}" if result.error else f"addr {told_address(world, process, args[1], args[2], whose)}"
     world.step(block, process.seat, f"{word} {number_of(args[0])}", told, slot.description, other=other)
 
 
 @says("getsockopt")
-def say_getsockopt(world, block, process, args, result):
+def say_getsockopt(world: World, block: Block, process: Process, args: Arguments, result: Result) -> None:
     slot = socket_of(world, block, process, args[0])
-    if args[2] in PEER_PIDFD and slot is not None and not result.error and number_of(args[3]) is not None:
+    if args[2] in PEER_PIDFD and slot is not None and not result.error and number_of(args[3], None) is not None:
         make_pidfd(world, block, process, number_of(args[3]))
         block.otherwise("the peer's descriptor of a process: an opaque object")
         return
+    if slot is not None and str(args[2]) in BUFFERS and not result.error:
+        say_buffer(world, block, slot.description, str(args[2]), args[3])
     option = OPTIONS.get(str(args[2])) if str(args[1]) == "SOL_SOCKET" else None
     if slot is None or option is None:
         block.leave_out(f"getsockopt {args[2]}" if slot else "getsockopt of another family")
@@ -373,7 +405,8 @@ def say_getsockopt(world, block, process, args, result):
     if result.error:
         told = f"err {result.error}"
     elif option == "peercred":
-        told = f"cred {world.person(value.get('pid'))} {value.get('uid')} {value.get('gid')}"
+        value = fields_of(value)
+        told = f"cred {world.people.word_of(value.get('pid'))} {value.get('uid')} {value.get('gid')}"
         if slot.description.outer is not None:
             world.outside.learnt.people[slot.description.outer.ordinal] = (value.get("uid"), value.get("gid"))
     else:
@@ -383,14 +416,14 @@ def say_getsockopt(world, block, process, args, result):
 
 
 @says("setsockopt")
-def say_setsockopt(world, block, process, args, result):
+def say_setsockopt(world: World, block: Block, process: Process, args: Arguments, result: Result) -> None:
     slot = socket_of(world, block, process, args[0])
     if slot is not None and args[2] in PEEK_OFFSET and not result.error and number_of(args[3], -1) >= 0:
         world.make_unknown(slot.description, "SO_PEEK_OFF was set: what a peek shows depends on the peeks before it")
         block.not_at_all("SO_PEEK_OFF")
         return
-    if slot is not None and args[2] in SEND_BUFFERS and not result.error:
-        slot.description.has_own_buffer = True
+    if slot is not None and str(args[2]) in BUFFERS and not result.error:
+        slot.description.buffers[BUFFERS[str(args[2])]] = number_of(args[3], 0)
     if slot is None or str(args[1]) != "SOL_SOCKET" or str(args[2]) != "SO_PASSCRED" or result.error:
         block.leave_out(f"setsockopt {args[2]}" if slot else "setsockopt of another family")
         return

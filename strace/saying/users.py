@@ -1,18 +1,27 @@
 """Says changes of users and groups: setids has real, effective and saved ids as one, so what sets them apart is said by the effective ones."""
-from reading.words import number_of
+from __future__ import annotations
+
+from typing import TYPE_CHECKING
+
+from reading.words import Arguments, number_of
 from . import handover
 from .world import says
+
+if TYPE_CHECKING:
+    from reading.calls import Result
+    from .model import Block, Ids, Process
+    from .world import World
 
 NO_ID = 4294967295
 APART = "real, effective and saved ids that differ: the effective ones"
 
 
-def kept(asked, former):
+def kept(asked: int, former: int):
     """The id that is asked for, or the former one where none is (setresuid(2))."""
     return former if asked == NO_ID else asked
 
 
-def changed(process, name, asked, ids):
+def changed(process: Process, name: str, asked: Arguments, ids: Ids):
     """Real, effective and saved ids behind a call that succeeds (setuid(2), setreuid(2), setresuid(2))."""
     real, effective, saved = ids
     if name in ("setuid", "setgid"):
@@ -25,7 +34,7 @@ def changed(process, name, asked, ids):
     return kept(asked[0], real), new, saved if leaves_saved else new
 
 
-def answer(process, user, group):
+def answer(process: Process, user: int, group: int) -> str:
     """What the layer answers a setids of the process."""
     if NO_ID in (user, group):
         return "err EINVAL"
@@ -33,9 +42,9 @@ def answer(process, user, group):
 
 
 @says("setuid", "setgid", "setreuid", "setregid", "setresuid", "setresgid")
-def say_ids(world, block, process, args, result):
+def say_ids(world: World, block: Block, process: Process, args: Arguments, result: Result) -> None:
     name = block.call.name
-    asked = [number_of(one) & NO_ID for one in args]
+    asked = Arguments(number_of(one) & NO_ID for one in args)
     if len(asked) > 1 and all(one == NO_ID for one in asked):
         block.leave_out("a change of ids that asks for none")
         return
@@ -55,7 +64,7 @@ def say_ids(world, block, process, args, result):
             block.otherwise(APART)
 
 
-def say_refused(world, block, process, ids, error):
+def say_refused(world: World, block: Block, process: Process, ids: tuple[int, int], error: str) -> None:
     """A refused change is said where the layer refuses it alike."""
     if answer(process, *ids) == f"err {error}":
         world.step(block, process.seat, "setids {} {}".format(*ids), f"err {error}")
@@ -63,7 +72,7 @@ def say_refused(world, block, process, ids, error):
         block.leave_out(f"{block.call.name} that failed, with {error}")
 
 
-def become(world, block, process, user, group):
+def become(world: World, block: Block, process: Process, user: int, group: int) -> None:
     """The process has these ids, by setids, or where the layer refuses that as another process of the header."""
     if answer(process, user, group) != "ok":
         handover.go_on_as(world, block, process, user, group)
@@ -75,10 +84,10 @@ def become(world, block, process, user, group):
 
 
 @says("setfsuid", "setfsgid")
-def say_file_ids(world, block, process, args, result):
+def say_file_ids(world: World, block: Block, process: Process, args: Arguments, result: Result) -> None:
     block.leave_out(f"{block.call.name}, of ids that count for files alone")
 
 
 @says("setgroups")
-def say_groups(world, block, process, args, result):
+def say_groups(world: World, block: Block, process: Process, args: Arguments, result: Result) -> None:
     block.leave_out("setgroups that failed" if result.error else "setgroups")

@@ -1,5 +1,10 @@
 """The table of strace/check."""
+from __future__ import annotations
+
+from typing import Any
+
 from saying.model import How
+
 
 COLUMNS = ("program", "calls", "on AF_UNIX", "not said", "compared", "agree", "under a rule", "differ", "not decided", "moved",
            "moments", "same", "not told", "different")
@@ -9,7 +14,7 @@ def heading():
     return ["| " + " | ".join(COLUMNS) + " |", "|" + "---|" * len(COLUMNS)]
 
 
-def cells_of(row):
+def cells_of(row: dict[str, Any]):
     calls, replies, audit = row["calls"], row["replies"], row["audit"]
     unix = calls["on AF_UNIX"]
     return [row["program"], calls["made"], sum(unix.values()), unix[How.NOT_AT_ALL.value], replies["compared"], replies["agree"],
@@ -17,13 +22,13 @@ def cells_of(row):
             audit["not told"], audit["different"]]
 
 
-def row_of(row):
+def row_of(row: dict[str, Any]):
     if "fault" in row:
         return f"| {row['program']} | {row['fault']} |"
     return "| " + " | ".join(str(cell) for cell in cells_of(row)) + " |"
 
 
-def table_of(rows):
+def table_of(rows: list[dict[str, Any]]) -> str:
     """The sum, and the differences behind the table."""
     good = [row for row in rows if "fault" not in row]
     sums = [sum(column) for column in zip(*(cells_of(row)[1:] for row in good))]

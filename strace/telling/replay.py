@@ -1,14 +1,24 @@
 """The report of replay: how the calls were said, and how the replies stand to the kernel's."""
+from __future__ import annotations
+
 from collections import Counter
+from typing import TYPE_CHECKING, Any
 
 from judging.compare import Outcome
 from saying.model import How
+
+if TYPE_CHECKING:
+    from judging.compare import Verdict
+    from judging.order import Order
+    from judging.run import Runner
+    from reading.calls import Log
+    from saying.world import World
 
 MOST_TOLD = 12
 MOST_PLACES = 5
 
 
-def calls_of(world):
+def calls_of(world: World):
     """How the log's calls were said, all of them and those on AF_UNIX sockets."""
     blocks = [block for block in world.blocks if block.call is not None and hasattr(block.call, "name") and not block.is_part]
     return {
@@ -22,7 +32,7 @@ def calls_of(world):
     }
 
 
-def replies_of(order):
+def replies_of(order: Order):
     verdicts = order.verdicts
     rules = Counter(verdict.rule for verdict in verdicts if verdict.outcome is Outcome.RULE)
     compared = [verdict for verdict in verdicts if verdict.outcome is not Outcome.NOT_COMPARED]
@@ -37,24 +47,24 @@ def replies_of(order):
     }
 
 
-def before_first(compared):
+def before_first(compared: list[Verdict]):
     return next((place for place, verdict in enumerate(compared) if verdict.outcome is Outcome.DIFFERS), len(compared))
 
 
-def difference_of(order, verdict):
+def difference_of(order: Order, verdict: Verdict):
     block = verdict.step.block
     return {"is decided": order.is_decided(verdict), "line": block.call.begin if block.call is not None else None,
             "process": block.program, "call": verdict.call, "reply": verdict.ours, "kernel": verdict.kernel, "descriptor": verdict.step.state}
 
 
-def report_of(log, world, order, runner):
+def report_of(log: Log, world: World, order: Order, runner: Runner):
     """All that replay says, as a value."""
     return {
-        "log": {"lines": log.lines, "recorded": log.head.recorded, "threads": len(world.pids), "cut": log.cut,
+        "log": {"lines": log.lines, "recorded": log.head.recorded, "threads": len(world.people.by_pid), "cut": log.cut,
                 "unfinished": log.unfinished, "unreadable": len(log.bad), "first unreadable": log.bad[:3],
-                "strings cut": world.cut_texts},
+                "strings cut": world.gaps.cut_texts},
         "calls": calls_of(world),
-        "unknown calls": dict(world.unknown_names),
+        "unknown calls": dict(world.gaps.unknown_names),
         "notes": world.doubts.told(),
         "unknown": [{"line": block.call.begin, "process": block.program, "call": block.call.name, "why": block.unknown}
                     for block in world.blocks if block.unknown],
@@ -66,7 +76,7 @@ def report_of(log, world, order, runner):
     }
 
 
-def reasons(counts, heading):
+def reasons(counts: dict[str, int], heading: str):
     lines = [f"  {heading}:"] if counts else []
     for reason, count in list(counts.items())[:MOST_TOLD]:
         lines.append(f"    {count:6d} {reason}")
@@ -75,7 +85,7 @@ def reasons(counts, heading):
     return lines
 
 
-def text_of(report, every=False):
+def text_of(report: dict[str, Any], every: bool = False) -> str:
     """The report as lines."""
     log, calls, replies = report["log"], report["calls"], report["replies"]
     lines = [f"{log['lines']} lines, {log['threads']} processes, {calls['made']} calls"]
@@ -89,7 +99,7 @@ def text_of(report, every=False):
     lines += doubts_of(report["notes"])
     lines.append(f"replies: {replies['compared']} compared, {replies['agree']} agree, {replies['under a rule']} under a rule, "
                  f"{replies['differ']} differ; {report['moved']} calls that overlap were moved")
-    if report["out of time"]:
+    if report["out of time"] or replies["not decided"]:
         lines.append(f"  the search for an order of the calls that overlap ended early: {replies['not decided']} further replies aren't "
                      "decided (see --seconds)")
     lines += reasons(replies["rules"], "rules of compare/differences.txt")
@@ -102,7 +112,7 @@ def text_of(report, every=False):
     return "\n".join(lines)
 
 
-def doubts_of(notes):
+def doubts_of(notes: dict[str, list[int]]):
     """What can't be as the log tells it, with the first lines of each."""
     lines = ["  what can't be as the log tells it:"] if notes else []
     for text, places in notes.items():
@@ -112,14 +122,14 @@ def doubts_of(notes):
     return lines
 
 
-def status_of(report):
+def status_of(report: dict[str, Any]) -> int:
     """1 where a reply differs, 3 where something else of the log can't be so or replies aren't decided, else 0."""
     if report["replies"]["differ"]:
         return 1
     return 3 if report["notes"] or report["log"]["unreadable"] or report["replies"]["not decided"] else 0
 
 
-def faults_of(log):
+def faults_of(log: dict[str, Any]):
     lines = []
     if not log["recorded"]:
         lines.append("  strace/record didn't write it: what was open at the start is guessed from what was used")

@@ -1,11 +1,10 @@
 """The list of programs, the quiet moments at which /proc is compared, and what counts as the same file or socket."""
-import sys
+from __future__ import annotations
+
 import tempfile
 import unittest
-from pathlib import Path
 
-TOP = Path(__file__).resolve().parents[1]
-sys.path.insert(0, str(TOP))
+from here import TOP
 from checking.mistakes import changes
 from checking.moments import busy_times, quiet_moments, same
 from reading.calls import read_log
@@ -26,7 +25,7 @@ def log():
         return read_log(file.name)
 
 
-def sample(begin, end, **tables):
+def sample(begin: float, end: float, **tables: dict[int, str]):
     return {"begin": begin, "end": end, "tables": {7: {3: "socket:[5]"}, **tables}}
 
 

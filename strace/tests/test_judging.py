@@ -1,15 +1,16 @@
 """Rules, replies side by side, and the order of calls that overlap."""
-import sys
+from __future__ import annotations
+
 import tempfile
 import unittest
-from pathlib import Path
 
-TOP = Path(__file__).resolve().parents[1]
-sys.path.insert(0, str(TOP))
+from here import TOP
 from judging.compare import filled, with_unasked
 from judging.holdings import calls_up_to
-from judging.order import candidates, exchanges
+from judging.order import exchanges
+from judging.overlaps import Overlaps, in_flight
 from judging.rules import RULES, Case, read_rules, rule_of
+from reading.calls import Call
 from saying.handover import placing
 from saying.model import Block, Step
 from saying.names import Names, spell
@@ -52,7 +53,7 @@ state: same
 """
 
 
-def rule_for(on, call, ours, linux, marks="", other="", other_name=None):
+def rule_for(on: str, call: str, ours: str, linux: str, marks: str = "", other: str = "", other_name: str | None = None):
     with tempfile.NamedTemporaryFile("w", suffix=".txt") as file:
         file.write(SMALL)
         file.flush()
@@ -130,11 +131,11 @@ class Replies(unittest.TestCase):
         self.assertEqual(filled("bytes 0000", "bytes 6162", False), "bytes 0000")
 
 
-def block(begin, end, at):
-    return Block(object(), None, begin, end, at, steps=[1])
+def block(begin: float, end: float, at: float, thread: int = 1):
+    return Block(Call(thread, "read", "", begin, end, None, None), None, begin, end, at, steps=[1], concerns=(7,))
 
 
-def in_order(moves, first, second):
+def in_order(moves: list[tuple[Block, float]], first: Block, second: Block):
     places = {id(first): first.at, id(second): second.at}
     places.update({id(one): at for one, at in moves})
     self_begin = all(one.begin <= at <= one.end + 0.01 for one, at in moves)
@@ -143,7 +144,22 @@ def in_order(moves, first, second):
 
 class Order(unittest.TestCase):
     def test_calls_that_do_not_overlap_stay(self):
-        self.assertEqual(candidates([block(1, 2, 1), block(3, 4, 4)], block(5, 5, 5)), [])
+        blocks = [block(1, 2, 1), block(3, 4, 4), block(5, 5, 5)]
+        self.assertEqual(Overlaps(blocks).of(blocks[2], blocks, 2), [])
+
+    def test_calls_that_overlap_are_found_on_both_sides(self):
+        """By their lines, wherever they stand: one that began long before, one that stands at its end, and one within."""
+        blocks = [block(1, 9, 1, 2), block(2, 2, 2, 3), block(3, 3, 3, 3), block(3, 6, 5, 1), block(5, 5, 5.5, 3), block(4, 20, 20, 4),
+                  block(21, 21, 21, 2)]
+        found = Overlaps(blocks).of(blocks[3], blocks, 3)
+        self.assertEqual({one.at for one in found}, {1, 3, 5.5, 20})
+        other = block(4, 4, 4, 5)
+        other.concerns = (8,)
+        self.assertNotIn(other, Overlaps([*blocks, other]).of(blocks[3], sorted([*blocks, other], key=lambda one: one.at), 4))
+
+    def test_all_parts_of_a_call_are_in_flight_with_it(self):
+        calls = [block(1, 1, 1), block(2, 9, 2), block(2, 9, 2.5), block(10, 12, 10)]
+        self.assertEqual([in_flight(calls, line) for line in (0, 1, 5, 10)], [[], calls[:1], calls[1:3], calls[3:]])
 
     def test_an_exchange_keeps_both_within_their_lines(self):
         for first, second in ((block(2, 9, 9), block(5, 5, 5)), (block(7, 7, 7), block(2, 9, 2)), (block(3, 9, 9), block(1, 5, 1))):
@@ -161,7 +177,7 @@ class Moments(unittest.TestCase):
 
 
 class HandOver(unittest.TestCase):
-    def end(self, numbers):
+    def end(self, numbers: list[int]):
         """Where the descriptors are after the lines that place them: each as the number it had in the other table."""
         table = {0: "socket", **{place + 1: number for place, number in enumerate(numbers)}}
         for line in placing(numbers):

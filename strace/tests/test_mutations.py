@@ -1,12 +1,9 @@
 """Changes of the small logs, one at a time: how many of each kind a replay notices, which strace/mutate prints as a table.
 
 It needs uxrun, as test_replay.py says."""
-import sys
 import unittest
-from pathlib import Path
 
-HERE = Path(__file__).resolve().parent
-sys.path.insert(0, str(HERE.parent))
+from here import HERE
 from checking.mutations import KINDS, places, table_of, tally
 from judging.run import Runner
 from test_replay import UXRUN, log_in

@@ -1,4 +1,6 @@
 """Lines and calls of a log, and logs that aren't what strace writes."""
+from __future__ import annotations
+
 import os
 import subprocess
 import sys
@@ -7,8 +9,7 @@ import unittest
 from pathlib import Path
 from random import Random
 
-TOP = Path(__file__).resolve().parents[1]
-sys.path.insert(0, str(TOP))
+from here import TOP
 from common import load
 from judging.run import Fault
 from reading.blanking import Blanker
@@ -17,7 +18,7 @@ from reading.head import Head, Inherited
 from reading.lines import Kind, read_line
 
 
-def log_of(data, **options):
+def log_of(data: bytes | str, **options: int):
     with tempfile.NamedTemporaryFile(suffix=".log") as file:
         file.write(data if isinstance(data, bytes) else data.encode("latin-1"))
         file.flush()
@@ -122,7 +123,7 @@ class Malformed(unittest.TestCase):
 class Options(unittest.TestCase):
     """Logs of strace's other options are told as such."""
 
-    def replay(self, name, text):
+    def replay(self, name: str, text: str):
         with tempfile.TemporaryDirectory() as folder:
             path = Path(folder) / name
             path.write_text(text, "latin-1")
@@ -161,7 +162,7 @@ class Heads(unittest.TestCase):
 
 
 class Blanking(unittest.TestCase):
-    def blank(self, *lines):
+    def blank(self, *lines: str):
         blanker = Blanker()
         return [blanker.blank(line) for line in lines]
 

@@ -1,4 +1,6 @@
 """Recording: strace's logs of real commands, and how a recording ends. These need strace; without it they are skipped."""
+from __future__ import annotations
+
 import os
 import shutil
 import signal
@@ -8,16 +10,16 @@ import tempfile
 import time
 import unittest
 from pathlib import Path
+from typing import Callable
 
-TOP = Path(__file__).resolve().parents[1]
-sys.path.insert(0, str(TOP))
+from here import TOP
 from checking.samples import traced_by
 from reading.calls import read_log
 
 LONGEST = 30
 
 
-def wait_for(condition):
+def wait_for(condition: Callable[[], bool]):
     """Waits until something is so; the answer is whether it came."""
     deadline = time.monotonic() + LONGEST
     while not condition() and time.monotonic() < deadline:
@@ -33,7 +35,7 @@ def take_signals():
 
 @unittest.skipUnless(shutil.which("strace"), "there is no strace")
 class Ending(unittest.TestCase):
-    def record(self, folder, script):
+    def record(self, folder: str, script: str):
         """A recording of a shell script that goes on, once the script has made the file `there`."""
         log, pid = Path(folder) / "log", Path(folder) / "pid"
         command = [sys.executable, TOP / "record", "--pid-file", pid, log, "--", "sh", "-c", script]

@@ -1,19 +1,23 @@
 """Replays by uxrun: the small logs agree, calls out of order are moved, mistakes are noticed, and holders are told.
 
 These need uxrun, built in this repository or named by the variable UXRUN; without it they are skipped, which is told."""
+from __future__ import annotations
+
 import json
 import os
 import subprocess
 import sys
 import tempfile
 import unittest
-from pathlib import Path
 
-HERE = Path(__file__).resolve().parent
-TOP = HERE.parent
-sys.path.insert(0, str(TOP))
+from here import HERE, TOP
+import common
+from judging.order import Search
+from judging.rules import read_rules
 from judging.run import Fault, Runner
+from telling.replay import report_of, status_of
 
+RULES = read_rules()
 try:
     UXRUN = Runner().uxrun
 except Fault:
@@ -24,12 +28,12 @@ WITH_DOUBTS = {"created_files", "numbers_that_threads_took", "pipes"}
 PAIR_LINE = "9 1.1 socketpair(AF_UNIX, SOCK_STREAM, 0, [0<UNIX-STREAM:[7->8]>, 1<UNIX-STREAM:[8->7]>]) = 0\n"
 
 
-def log_in(text):
+def log_in(text: str):
     """The log of a file of logs/."""
     return text.partition("--- log\n")[2].partition("--- script\n")[0]
 
 
-def run(program, log, *options):
+def run(program: str, log: str, *options: str):
     """A program's status and its report."""
     with tempfile.NamedTemporaryFile("w", encoding="latin-1", suffix=".log") as file:
         file.write(log)
@@ -39,19 +43,30 @@ def run(program, log, *options):
     return done.returncode, json.loads(done.stdout) if done.stdout else done.stderr
 
 
+def replayed(text: str, seconds: float = 60):
+    """The status and report of strace/replay, made here: to start a program takes longer than most of these logs."""
+    with tempfile.NamedTemporaryFile("w", encoding="latin-1", suffix=".log") as file:
+        file.write(text)
+        file.flush()
+        log = common.load(file.name)
+    world, runner = common.say(log), Runner(UXRUN)
+    report = report_of(log, world, Search(world, runner, RULES, seconds).run(), runner)
+    return status_of(report), report
+
+
 @unittest.skipUnless(UXRUN, "there is no uxrun: build it, or name it by the variable UXRUN")
 class Replay(unittest.TestCase):
     def test_the_small_logs_agree(self):
         for path in sorted((HERE / "logs").glob("*.txt")):
             with self.subTest(path.stem):
-                status, report = run("replay", log_in(path.read_text("latin-1")))
+                status, report = replayed(log_in(path.read_text("latin-1")))
                 self.assertEqual(report["differences"], [])
                 self.assertEqual(status, 3 if path.stem in WITH_DOUBTS else 0, report["notes"])
 
     def test_a_reply_that_is_not_the_kernels_is_told_with_its_line(self):
         log = HEAD + ('9 1.1 socketpair(AF_UNIX, SOCK_STREAM, 0, [0<UNIX-STREAM:[7->8]>, 1<UNIX-STREAM:[8->7]>]) = 0\n'
                       '9 1.2 write(0<UNIX-STREAM:[7->8]>, "hi", 2) = 2\n9 1.3 read(1<UNIX-STREAM:[8->7]>, "ho", 9) = 2\n')
-        status, report = run("replay", log)
+        status, report = replayed(log)
         self.assertEqual(status, 1)
         self.assertEqual(report["replies"]["differ"], 1)
         self.assertEqual(report["differences"][0]["line"], 6)
@@ -70,16 +85,16 @@ class Replay(unittest.TestCase):
 
     def test_what_no_time_was_left_for_is_not_decided(self):
         log = HEAD + PAIR_LINE + '9 1.2 write(0<UNIX-STREAM:[7->8]>, "hi", 2) = 2\n9 1.3 read(1<UNIX-STREAM:[8->7]>, "ho", 9) = 2\n'
-        status, report = run("replay", log, "--seconds", "0")
+        status, report = replayed(log, 0)
         self.assertEqual((status, report["replies"]["differ"], report["replies"]["not decided"], report["differences"][0]["is decided"]),
                          (3, 0, 1, False))
-        status, report = run("replay", log)
+        status, report = replayed(log)
         self.assertEqual((status, report["replies"]["differ"], report["replies"]["not decided"]), (1, 1, 0))
 
     def test_no_order_helps_where_calls_do_not_overlap(self):
         log = HEAD + ('9 1.1 socketpair(AF_UNIX, SOCK_STREAM, 0, [0<UNIX-STREAM:[7->8]>, 1<UNIX-STREAM:[8->7]>]) = 0\n'
                       '9 1.2 fork() = 10\n10 1.3 read(1<UNIX-STREAM:[8->7]>, "a", 9) = 1\n9 1.4 write(0<UNIX-STREAM:[7->8]>, "a", 1) = 1\n')
-        status, report = run("replay", log)
+        status, report = replayed(log)
         self.assertEqual((status, report["moved"], report["replies"]["differ"]), (1, 0, 1))
 
     def test_a_known_difference_falls_under_its_rule(self):
@@ -87,7 +102,7 @@ class Replay(unittest.TestCase):
                       '9 1.2 write(0<UNIX-SEQPACKET:[7->8]>, "a", 1) = 1\n'
                       '9 1.3 recvmsg(1<UNIX-SEQPACKET:[8->7]>, {msg_name=NULL, msg_namelen=0, msg_iov=[{iov_base="a", iov_len=9}], '
                       'msg_iovlen=1, msg_controllen=0, msg_flags=0}, 0) = 1\n')
-        status, report = run("replay", log)
+        status, report = replayed(log)
         self.assertEqual((status, report["replies"]["rules"]), (0, {"record-end": 1}))
 
     def test_an_address_that_a_short_buffer_cut_agrees_as_far_as_it_goes(self):
@@ -97,11 +112,11 @@ class Replay(unittest.TestCase):
                       '9 1.4 socket(AF_UNIX, SOCK_STREAM, 0) = 1<UNIX-STREAM:[8]>\n'
                       '9 1.5 bind(1<UNIX-STREAM:[8]>, {sa_family=AF_UNIX, sun_path=@"a name"}, 9) = 0\n'
                       '9 1.6 getsockname(1<UNIX-STREAM:[8]>, {sa_family=AF_UNIX, sun_path=@"a n"}, [6 => 9]) = 0\n')
-        self.assertEqual(run("replay", log)[0], 0)
-        self.assertEqual(run("replay", log.replace('"/a/lo"', '"/b/lo"'))[1]["replies"]["differ"], 1)
-        self.assertEqual(run("replay", log.replace('@"a n"', '@"a m"'))[1]["replies"]["differ"], 1)
+        self.assertEqual(replayed(log)[0], 0)
+        self.assertEqual(replayed(log.replace('"/a/lo"', '"/b/lo"'))[1]["replies"]["differ"], 1)
+        self.assertEqual(replayed(log.replace('@"a n"', '@"a m"'))[1]["replies"]["differ"], 1)
         # An address that wasn't cut has to be whole.
-        self.assertEqual(run("replay", log.replace("[7 => 15]", "[110 => 8]"))[1]["replies"]["differ"], 1)
+        self.assertEqual(replayed(log.replace("[7 => 15]", "[110 => 8]"))[1]["replies"]["differ"], 1)
 
     def test_a_count_that_is_not_what_came_or_went_differs(self):
         message = '{msg_name=NULL, msg_namelen=0, msg_iov=[{iov_base="hello", iov_len=99}], msg_iovlen=1, msg_controllen=0, msg_flags=0}, 0)'
@@ -114,12 +129,12 @@ class Replay(unittest.TestCase):
                 for line, differ in ((call, 0), (call[:-1] + "9", 1), (call[:-1] + "104", 1)):
                     log = "\n".join([*lines[:-1], line]).replace("<N>", f"<{first}>").replace("<M>", f"<{second}>") + "\n"
                     with self.subTest(f"{kind} {line}"):
-                        self.assertEqual(run("replay", HEAD + log)[1]["replies"]["differ"], differ)
+                        self.assertEqual(replayed(HEAD + log)[1]["replies"]["differ"], differ)
 
     def test_a_failed_receive_asks_for_something(self):
         """strace shows no buffers then. A receive of 0 bytes of a stream wouldn't wait here, by a rule."""
         log = HEAD + PAIR_LINE + '9 1.2 recvmsg(1<UNIX-STREAM:[8->7]>, {msg_namelen=0}, MSG_DONTWAIT) = -1 EAGAIN (Try again)\n'
-        status, report = run("replay", log)
+        status, report = replayed(log)
         self.assertEqual((status, report["replies"]["agree"], report["replies"]["under a rule"]), (0, 2, 0))
 
     def test_what_no_reply_shows_is_told_with_its_line_and_a_status_of_its_own(self):
@@ -135,30 +150,30 @@ class Replay(unittest.TestCase):
         }
         for text, (line, right, wrong) in lines.items():
             with self.subTest(text):
-                self.assertEqual(run("replay", HEAD + f"9 1.0 {line % right}\n")[0], 0)
-                status, report = run("replay", HEAD + f"9 1.0 {line % wrong}\n")
+                self.assertEqual(replayed(HEAD + f"9 1.0 {line % right}\n")[0], 0)
+                status, report = replayed(HEAD + f"9 1.0 {line % wrong}\n")
                 self.assertEqual((status, report["notes"]), (3, {text: [4 + line.count("\n")]}))
         for line, status in ((flags % (0x2, "O_RDWR"), 0), (flags % (0x2, "O_RDWR|O_NONBLOCK"), 3), (flags % (0x802, "O_RDWR|O_NONBLOCK"), 1)):
-            self.assertEqual(run("replay", HEAD + PAIR_LINE + f"9 2.0 {line}\n")[0], status, line)
+            self.assertEqual(replayed(HEAD + PAIR_LINE + f"9 2.0 {line}\n")[0], status, line)
         signals = "9 1.0 signalfd4(-1, [], 8, SFD_NONBLOCK) = 0\n9 1.1 signalfd4(0<anon_inode:[signalfd]>, [HUP], 8, SFD_NONBLOCK) = 0\n"
-        self.assertEqual(run("replay", HEAD + signals)[0], 0)
+        self.assertEqual(replayed(HEAD + signals)[0], 0)
         watched = "9 1.0 epoll_create1(0) = 0\n9 1.1 socket(AF_UNIX, SOCK_STREAM, 0) = 1\n" \
                   "9 1.2 epoll_ctl(0, EPOLL_CTL_ADD, 1, {events=EPOLLIN, data={u32=1, u64=1}}) = 0\n"
         for count, wanted in (("1", 1), ("2", 1)):
-            self.assertEqual(run("replay", HEAD + watched + f"9 2.0 {event % count}\n")[0], wanted)
+            self.assertEqual(replayed(HEAD + watched + f"9 2.0 {event % count}\n")[0], wanted)
 
     def test_a_number_that_calls_which_overlap_were_given_in_another_order_is_no_doubt(self):
         log = HEAD + ("9 1.0 clone(child_stack=0x1, flags=CLONE_VM|CLONE_THREAD) = 10\n9 1.1 socket(AF_UNIX, SOCK_STREAM, 0 <unfinished ...>\n"
                       "10 1.2 socket(AF_UNIX, SOCK_STREAM, 0) = 0\n9 1.3 <... socket resumed>) = 1\n9 1.4 close(0 <unfinished ...>\n"
                       "10 1.5 socket(AF_UNIX, SOCK_STREAM, 0) = 2\n9 1.6 <... close resumed>) = 0\n")
-        status, report = run("replay", log)
+        status, report = replayed(log)
         self.assertEqual((status, report["notes"]), (0, {}))
         # A number that was closed before the call began would have been given.
-        status, report = run("replay", HEAD + PAIR_LINE + "9 1.2 close(0) = 0\n9 1.3 socket(AF_UNIX, SOCK_STREAM, 0) = 2\n")
+        status, report = replayed(HEAD + PAIR_LINE + "9 1.2 close(0) = 0\n9 1.3 socket(AF_UNIX, SOCK_STREAM, 0) = 2\n")
         self.assertEqual((status, report["notes"]), (3, {"a new number that isn't the lowest free one": [6]}))
 
     def test_unknown_calls_are_counted_by_name(self):
-        _, report = run("replay", log_in((HERE / "logs/unknown_calls.txt").read_text("latin-1")))
+        _, report = replayed(log_in((HERE / "logs/unknown_calls.txt").read_text("latin-1")))
         self.assertEqual(report["unknown calls"], {"newcall": 1, "takecall": 1})
         self.assertEqual([one["line"] for one in report["unknown"]], [9, 10])
         self.assertIn("opencall: a new number by opencall: an opaque object", report["calls"]["reasons"]["by other words"])

@@ -1,9 +1,12 @@
 """Rules of logs: each of those that depend on what came before has a log in which it holds, and one in which it must not.
 
 These need uxrun, as test_replay.py says."""
+from __future__ import annotations
+
 import unittest
 
-from test_replay import HEAD, UXRUN, run
+import here  # noqa: F401
+from test_replay import HEAD, UXRUN, replayed
 
 PASSCRED = "setsockopt({}, SOL_SOCKET, SO_PASSCRED, [1], 4) = 0"
 PIPE = "pipe([0, 1]) = 0"
@@ -12,37 +15,37 @@ NOBODY = ("msg_control=[{cmsg_len=28, cmsg_level=SOL_SOCKET, cmsg_type=SCM_CREDE
           "msg_controllen=32")
 
 
-def pair(kind, first=0):
+def pair(kind: str, first: int = 0):
     return f"socketpair(AF_UNIX, SOCK_{kind}, 0, [{first}, {first + 1}]) = 0"
 
 
-def message(call, number, text, control="msg_controllen=0", flags="0", told="0", room=9):
+def message(call: str, number: int, text: str, control: str = "msg_controllen=0", flags: str = "0", told: str = "0", room: int = 9):
     """A sendmsg or recvmsg of a text."""
     return (f'{call}({number}, {{msg_name=NULL, msg_namelen=0, msg_iov=[{{iov_base="{text}", iov_len={room}}}], msg_iovlen=1, '
             f"{control}, msg_flags={told}}}, {flags}) = {len(text)}")
 
 
-def poll(number, told):
+def poll(number: int, told: str):
     return (f"poll([{{fd={number}, events=POLLIN|POLLOUT|POLLRDHUP}}], 1, 0) = 1 "
             f"([{{fd={number}, revents={'|'.join('POLL' + word for word in told.split())}}}])")
 
 
-def socket(kind, number, name=None):
+def socket(kind: str, number: int, name: str | None = None):
     """A socket, and its bind where it has a name."""
     bind = [f'bind({number}, {{sa_family=AF_UNIX, sun_path={name}}}, 9) = 0'] if name else []
     return [f"socket(AF_UNIX, SOCK_{kind}, 0) = {number}", *bind]
 
 
-def connect(number, name):
+def connect(number: int, name: str):
     return f"connect({number}, {{sa_family=AF_UNIX, sun_path={name}}}, 9) = 0"
 
 
-def sockname(number, name):
+def sockname(number: int, name: str | None):
     path = f", sun_path={name}" if name else ""
     return f"getsockname({number}, {{sa_family=AF_UNIX{path}}}, [110 => 9]) = 0"
 
 
-def receive(number, text):
+def receive(number: int, text: str):
     return f'recvfrom({number}, "{text}", 99, 0, NULL, NULL) = {len(text)}'
 
 
@@ -52,6 +55,8 @@ LISTENER = [*socket("STREAM", 0, '"/s"'), "listen(0, 5) = 0"]
 DROPPED = [pair("DGRAM"), *socket("DGRAM", 2, '"/d"'), 'bind(0, {sa_family=AF_UNIX, sun_path="/z"}, 5) = 0', 'write(1, "old", 3) = 3',
            connect(0, '"/d"')]
 TO_Z = 'sendto(2, "new", 3, 0, {sa_family=AF_UNIX, sun_path="/z"}, 5) = 3'
+
+TO_D = 'sendto({}, "a", 1, 0, {{sa_family=AF_UNIX, sun_path="/d"}}, 5) = 1'
 
 # The rule's name, what it holds of, and what it must not hold of, each behind lines that hold of none.
 CASES = [
@@ -112,12 +117,23 @@ CASES = [
     ("backlog", [*socket("STREAM", 0, '"/s"'), "listen(0, 1) = 0", *socket("STREAM", 1), *socket("STREAM", 2), connect(1, '"/s"')],
      [connect(2, '"/s"')], []),
     ("bind-again", socket("DGRAM", 0, '"/s"'), ["bind(0, {sa_family=AF_UNIX}, 2) = 0"], []),
+    # Until they are received, and of the one socket that they wait at.
+    ("messages-in-a-queue", [pair("DGRAM"), *['write(0, "a", 1) = 1'] * 10], ['write(0, "b", 1) = -1 EAGAIN (Try again)'],
+     [['read(1, "a", 9) = 1', 'write(0, "b", 1) = -1 EAGAIN (Try again)'],
+      [pair("DGRAM", 2), 'write(2, "b", 1) = -1 EAGAIN (Try again)']]),
+    ("messages-in-a-queue", [pair("SEQPACKET"), *['write(0, "a", 1) = 1'] * 16], ['write(0, "b", 1) = 1'],
+     [[pair("SEQPACKET", 2), 'write(2, "b", 1) = -1 EAGAIN (Try again)']]),
+    ("messages-in-a-queue", [*socket("DGRAM", 0, '"/d"'), *socket("DGRAM", 1), *[TO_D.format(1)] * 10],
+     [TO_D.format(1).replace("= 1", "= -1 EAGAIN (Try again)")],
+     [[*socket("DGRAM", 2, '"/e"'), TO_D.format(1).replace("/d", "/e").replace("= 1", "= -1 EAGAIN (Try again)")]]),
+    ("far-offset", ['memfd_create("m", 0) = 0'], ["lseek(0, 9000000000000000, SEEK_SET) = -1 EINVAL (Invalid argument)"],
+     [["lseek(0, 9000, SEEK_SET) = -1 EINVAL (Invalid argument)"]]),
     ("abstract-names-by-type", socket("DGRAM", 0, '@"s"'), socket("STREAM", 1, '@"s"'), [socket("DGRAM", 1, '@"s"')]),
 ]
 
 
-def replay(lines):
-    return run("replay", HEAD + "".join(f"9 1.{place:03} {line}\n" for place, line in enumerate(lines)))
+def replay(lines: list[str]):
+    return replayed(HEAD + "".join(f"9 1.{place:03} {line}\n" for place, line in enumerate(lines)))
 
 
 @unittest.skipUnless(UXRUN, "there is no uxrun: build it, or name it by the variable UXRUN")

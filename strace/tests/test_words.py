@@ -1,13 +1,14 @@
 """The words of a call's arguments: strings, descriptors with what they lead to, structures, lists, flags, changes."""
-import sys
+from __future__ import annotations
+
 import unittest
-from pathlib import Path
 
-sys.path.insert(0, str(Path(__file__).resolve().parents[1]))
-from reading.words import Change, Descriptor, Text, Unreadable, after, arguments, flags_of, number_of
+import here  # noqa: F401
+from reading.words import (Arguments, Change, Descriptor, OtherForm, Text, Unreadable, after, arguments, fields_of, flags_of, list_of,
+                           number_of)
 
 
-def values(text):
+def values(text: str):
     return arguments(text)[0]
 
 
@@ -64,7 +65,15 @@ class Structures(unittest.TestCase):
         self.assertEqual(flags_of(values("O_RDWR|O_CLOEXEC|0x4, 0)")[0]), {"O_RDWR", "O_CLOEXEC", "0x4"})
 
     def test_numbers(self):
-        self.assertEqual([number_of(value) for value in values("[5], 7<x>, 0x10, NULL)")], [5, 7, 16, None])
+        self.assertEqual([number_of(value) for value in values("[5], 7<x>, 0x10)")], [5, 7, 16])
+
+    def test_what_is_of_another_form_is_told_as_such(self):
+        self.assertEqual((number_of("NULL", None), list_of("NULL"), list_of([1])), (None, [], [1]))
+        for read, value in ((number_of, "NULL"), (number_of, None), (fields_of, "NULL"), (fields_of, [])):
+            with self.assertRaises(OtherForm):
+                read(value)
+        with self.assertRaises(OtherForm):
+            Arguments([1])[1]
 
     def test_what_is_cut_is_unreadable(self):
         for text in ('"abc', "{a=1", "[1, 2", "3<pipe:[", ""):
