@@ -39,7 +39,7 @@ struct Description {
     int send_room = 0, receive_room = 0;       // SO_SNDBUF and SO_RCVBUF as they are told
     int peer_pid = 0;
     std::vector<gid_t> peer_groups;
-    int listener_pid = 0;
+    ucred listener = {0, (uid_t)-1, (gid_t)-1};    // who made it listen; nobody where it doesn't
     std::vector<gid_t> listener_groups;
     bool has_limit = false;
 

@@ -144,7 +144,7 @@ Result answer_listen(World &world, Call &call) {
     Reply reply = world.say(*call.process, "listen " + text(call.number->layer) + " " + text(call.argument(1)));
     if (reply.error) return fail(reply.error);
     own.listening = true;
-    own.listener_pid = call.process->pid, own.listener_groups = call.process->groups;
+    own.listener = {call.process->pid, call.process->user, call.process->group}, own.listener_groups = call.process->groups;
     world.placeholders.listen(own);
     if (own.gate && !listen(own.gate.get(), 128)) world.outside->watch_gate(&own);
     world.touch(&own);
@@ -196,7 +196,7 @@ Ref join(World &world, Description *client, Description *listener) {
     Ref end = world.make(client->kind);
     end->lead_to(client), client->lead_to(end.get());
     end->connected = client->connected = true;
-    client->peer_pid = listener->listener_pid, client->peer_groups = listener->listener_groups;
+    client->peer_pid = listener->listener.pid, client->peer_groups = listener->listener_groups;
     listener->pending.push_back(end);
     world.placeholders.connect(*client);
     world.touch(listener);

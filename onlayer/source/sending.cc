@@ -15,7 +15,7 @@ static const int NO_NUMBER = 4095;             // what no table has open
 struct Items {
     std::vector<int> rights;
     std::string credentials;
-    bool has_rights = false, is_readable = true;
+    bool is_readable = true;
 };
 
 static std::string credentials_word(const World &world, const Call &call, const ucred &given) {
@@ -25,29 +25,30 @@ static std::string credentials_word(const World &world, const Call &call, const 
     return "c:" + text(number) + "," + text(given.uid) + "," + text(given.gid);
 }
 
+// Whether the item is one of those that Linux knows, and as long as it has to be.
+static bool read_item(const World &world, const Call &call, const cmsghdr &head, const char *data, Items &items) {
+    size_t length = head.cmsg_len - sizeof head, before = items.rights.size();
+    ucred given;
+    if (head.cmsg_type == SCM_RIGHTS) {
+        items.rights.resize(before + length / sizeof(int));
+        memcpy(items.rights.data() + before, data, length / sizeof(int) * sizeof(int));
+        return true;
+    }
+    if (head.cmsg_type != SCM_CREDENTIALS || length != sizeof given) return false;
+    memcpy(&given, data, sizeof given);
+    items.credentials = credentials_word(world, call, given);
+    return true;
+}
+
+// The items of a control buffer, by Linux's walk (__scm_send): an unknown level is skipped, the numbers of a second item of
+// rights follow those of the first, and a length that is no multiple of 4 is rounded down.
 static Items read_items(const World &world, const Call &call, const std::string &buffer) {
     Items items;
-    for (size_t from = 0; from + sizeof(cmsghdr) <= buffer.size();) {
-        cmsghdr head;
+    cmsghdr head;
+    for (size_t from = 0; from + sizeof head <= buffer.size() && items.is_readable; from += CMSG_ALIGN(head.cmsg_len)) {
         memcpy(&head, &buffer[from], sizeof head);
-        bool fits = head.cmsg_len >= sizeof head && head.cmsg_len <= buffer.size() - from;
-        if (!fits || head.cmsg_level != SOL_SOCKET || (head.cmsg_type != SCM_RIGHTS && head.cmsg_type != SCM_CREDENTIALS)) {
-            items.is_readable = false;
-            return items;
-        }
-        const char *data = &buffer[from] + sizeof head;
-        size_t length = head.cmsg_len - sizeof head;
-        if (head.cmsg_type == SCM_RIGHTS) {
-            items.has_rights = true;
-            size_t before = items.rights.size();
-            items.rights.resize(before + length / sizeof(int));
-            memcpy(items.rights.data() + before, data, length / sizeof(int) * sizeof(int));
-        } else if (length >= sizeof(ucred)) {
-            ucred given;
-            memcpy(&given, data, sizeof given);
-            items.credentials = credentials_word(world, call, given);
-        }
-        from += CMSG_ALIGN(head.cmsg_len);
+        items.is_readable = head.cmsg_len >= sizeof head && head.cmsg_len <= buffer.size() - from;
+        if (items.is_readable && head.cmsg_level == SOL_SOCKET) items.is_readable = read_item(world, call, head, &buffer[from] + sizeof head, items);
     }
     return items;
 }
@@ -61,7 +62,7 @@ Control read_control(World &world, Call &call, u64 at, size_t length) {
     if (out.error) return out;
     Items items = read_items(world, call, buffer);
     if (!items.is_readable) {
-        out.word = "x:" + hex(buffer);         // the layer judges it
+        out.word = "x:" + hex(buffer);         // the layer refuses it, in its order of errors
         return out;
     }
     std::string words;
@@ -79,14 +80,20 @@ Control read_control(World &world, Call &call, u64 at, size_t length) {
     return out;
 }
 
+static bool is_of_unix(const File &socket) {
+    int domain = 0;
+    socklen_t length = sizeof domain;
+    return socket && !getsockopt(socket.get(), SOL_SOCKET, SO_DOMAIN, &domain, &length) && domain == AF_UNIX;
+}
+
 bool passes_own_socket(World &world, Call &call) {
     msghdr head;
     if (call.process->table.empty() || !read_value(call.task, call.data.args[1], head) || !head.msg_control) return false;
     std::string buffer(std::min<size_t>(head.msg_controllen, 65536), 0);
     if (buffer.empty() || !read_memory(call.task, (u64)head.msg_control, &buffer[0], buffer.size())) return false;
-    for (int right : read_items(world, call, buffer).rights)
-        if (world.find_socket(call, right)) return true;
-    return false;
+    bool has_own = false;
+    for (int right : read_items(world, call, buffer).rights) has_own = has_own || world.find_socket(call, right);
+    return has_own && is_of_unix(take_file(call.process->pid, call.argument(0)));    // others don't take rights, and say so
 }
 
 // ---- sends
@@ -162,9 +169,9 @@ Result send_message(World &world, Call &call, u64 at, unsigned flags) {
     msghdr &head = message.head;
     Address to;
     if (head.msg_name && head.msg_namelen) to = read_address(world, call, (u64)head.msg_name, head.msg_namelen, false);
-    if (to.error) return fail(to.error);
     Control control = read_control(world, call, (u64)head.msg_control, head.msg_control ? head.msg_controllen : 0);
-    if (control.error) return fail(control.error);
+    if (to.error && control.word[0] == 'x') control.error = EINVAL;    // what was given is judged in the order of the layer
+    if (control.error || to.error) return fail(control.error ? control.error : to.error);
     return send_parts(world, call, message.parts, to, control, flags);
 }
 

@@ -26,7 +26,7 @@ static Result give_value(const Call &call, const std::string &value) {
 }
 
 static Result get_peer(World &world, Call &call) {
-    ucred peer = {0, (uid_t)-1, (gid_t)-1};
+    ucred peer = call.number->file->listener;
     Reply reply = world.say(*call.process, "getopt " + text(call.number->layer) + " peercred");
     if (reply.error && reply.error != ENOTCONN) return fail(reply.error);
     if (reply.ok()) peer = {world.real_pid(reply.number(1)), (uid_t)reply.number(2), (gid_t)reply.number(3)};
@@ -95,7 +95,8 @@ static Result set_credentials(World &world, Call &call, int value) {
     world.touch(&own);
     if (reply.error) return fail(reply.error);
     own.passes_credentials = value;
-    if (!value || !own.name.empty() || own.connected || own.peer) return done(0);
+    bool is_tied = own.peer || (own.is_connection() && own.connected);    // a server's end has its listener's name
+    if (!value || !own.name.empty() || is_tied) return done(0);
     Reply name = world.say(*call.process, "sockname " + text(call.number->layer));    // it has been given one
     if (name.ok() && name.word(1) != "u") own.name = name.word(1), world.names.bind(own.name, &own);
     return done(0);
