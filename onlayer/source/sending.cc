@@ -106,10 +106,7 @@ static Description *target_of(const World &world, const Call &call, const Addres
 
 static Result wait_to_send(World &world, Call &call, Description *target, unsigned flags) {
     Description *own = call.number->file.get();
-    if (own->kind == DATAGRAM) {               // a refused call changes nothing
-        world.untouch(target), world.untouch(own);
-        return world.wait(call, target ? target : own, Until::CHANGE, flags, SO_SNDTIMEO);
-    }
+    if (own->kind == DATAGRAM) return world.wait(call, target ? target : own, Until::CHANGE, flags, SO_SNDTIMEO);
     return world.wait(call, own, Until::OUTPUT, flags, SO_SNDTIMEO);
 }
 
@@ -120,12 +117,10 @@ static Result fail_to_send(World &world, Call &call, Description *target, int er
     return result;
 }
 
-// Something has come to the target: of a connection its input is known to be there, without a look.
-static void take_in(Description *target, const Control &control, size_t done, World &world) {
+static void take_in(World &world, Description *own, Description *target, const Control &control, size_t done, long n) {
     if (!target) return;
     if (!done && !control.rights.empty()) target->passing.push_back(control.rights);
-    if (target->is_connection()) world.know(target, target->conditions | IN);
-    world.placeholders.arrive(*target);
+    world.arrived(own, *target, n);
 }
 
 // A datagram of a bound socket to one outside: it is sent from where programs outside see that name.
@@ -151,13 +146,13 @@ Result send_parts(World &world, Call &call, const Parts &parts, const Address &t
     for (;;) {
         if (!gather(call.task, parts, call.done, own->is_stream() ? PIECE : PIECE + 1, data)) return call.done ? done(call.done) : fail(EFAULT);
         std::string words = before + hex(data) + " " + (call.done ? "-" : control.word) + " " + letters;
-        Reply reply = own->is_connection() ? world.say(*call.process, words, {own}) : world.say(*call.process, words, {target, own});
+        Reply reply = world.say(*call.process, words);
         if (reply.error == EAGAIN) {
             Result result = wait_to_send(world, call, target, flags);
             return result.way != Result::WAIT && call.done ? done(call.done) : result;
         }
         if (reply.error) return call.done ? done(call.done) : fail_to_send(world, call, target, reply.error, flags);
-        if (reply.number(1) || !own->is_stream()) take_in(target, control, call.done, world);
+        if (reply.number(1) || !own->is_stream()) take_in(world, own, target, control, call.done, reply.number(1));
         call.done += reply.number(1);
         if (!own->is_stream() || call.done >= all || !reply.number(1)) return done(call.done);
     }
