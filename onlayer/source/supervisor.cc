@@ -81,6 +81,7 @@ void Supervisor::take_notification(int listener) {
     Result result = world.handle(call);
     if (result.way != Result::PASS || world.layer->calls() != lines) world.counts.answered++, world.counts.by_call[call.nr()]++;
     else world.counts.passed++;
+    int task = call.task;
     if (result.way == Result::WAIT) {
         world.waiting.push_back(std::move(call));
         return world.settle();
@@ -88,6 +89,7 @@ void Supervisor::take_notification(int listener) {
     world.settle();                            // what it changed is shown before it is answered
     world.answer(call, result);
     world.let_go(std::move(call.number));
+    if (result.way != Result::LATER) tracer.send_put_off(task);
 }
 
 void Supervisor::take_signals() {

@@ -230,13 +230,22 @@ bool Tracer::answer_at_signal(int task) {
     user_regs_struct registers;
     ptrace(PTRACE_GETREGS, task, 0, &registers);
     if ((long)registers.rax != RESTART || (int)registers.orig_rax != found->second.data.nr) return false;
-    if (!found->second.result) return true;
+    if (!found->second.result || found->second.result->way == Result::PASS) return true;
     const Result &result = *found->second.result;
     registers.rax = result.error ? -result.error : result.value;
     registers.orig_rax = -1;
     ptrace(PTRACE_SETREGS, task, 0, &registers);
     world.undelivered.erase(found);
     return false;
+}
+
+// Whether a handler is about to run in place of a call that no signal cuts off on Linux, and that nobody has answered yet.
+static bool cuts_off(int task, int signal) {
+    static const std::set<int> whole = {SYS_close, SYS_close_range, SYS_dup, SYS_dup2, SYS_dup3, SYS_socket, SYS_socketpair, SYS_bind, SYS_listen,
+                                        SYS_shutdown, SYS_getsockname, SYS_getpeername, SYS_getsockopt, SYS_setsockopt};
+    user_regs_struct registers;
+    ptrace(PTRACE_GETREGS, task, 0, &registers);
+    return (long)registers.rax == RESTART && whole.count((int)registers.orig_rax) && is_caught(task, signal);
 }
 
 void Tracer::deliver_signal(int task, int signal) {
@@ -249,7 +258,7 @@ void Tracer::deliver_signal(int task, int signal) {
         ptrace(PTRACE_SETSIGINFO, task, 0, &info);
     }
     interrupt(task, signal);
-    if (!answer_at_signal(task)) {
+    if (!answer_at_signal(task) && !cuts_off(task, signal)) {
         ptrace(PTRACE_CONT, task, 0, signal);
         return;
     }

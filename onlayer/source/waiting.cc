@@ -119,7 +119,7 @@ void World::answer(Call &call, Result result) {
     if (result.way == Result::PASS) response.flags = SECCOMP_USER_NOTIF_FLAG_CONTINUE;
     else if (result.error) response.error = -result.error;
     else response.val = result.value;
-    if (ioctl(call.listener, SECCOMP_IOCTL_NOTIF_SEND, &response) && errno == ENOENT && result.way == Result::DONE) {
+    if (ioctl(call.listener, SECCOMP_IOCTL_NOTIF_SEND, &response) && errno == ENOENT) {
         counts.put_off++;
         undelivered[call.task] = {call.data, {}, result};
     }

@@ -158,16 +158,20 @@ void World::know(Description *file, unsigned conditions) {
         throw Fault("socket " + text(file->id) + " should have the conditions " + text(conditions) + ", and the layer tells " + text(file->conditions));
 }
 
+static void touch_senders(World &world, Description *sender, const Description &target) {
+    world.touch(sender);
+    for (Description *follower : target.followers) world.touch(follower);
+}
+
 // A send has reached the target: its input is known without a look, and so is whether the sender has room for more.
 void World::arrived(Description *sender, Description &target, long n) {
     bool had_input = target.shown_conditions & IN;
     target.unread += target.is_stream() ? n : 1;
+    bool is_full = !target.has_room();
+    if (is_full && !target.is_connection()) touch_senders(*this, sender, target);    // the target itself may be one of them
     know(&target, target.conditions | IN);
     if (had_input) placeholders.arrive(target);
-    if (target.has_room()) return;
-    if (target.is_connection() && sender) return know(sender, sender->conditions & ~OUT);
-    touch(sender);
-    for (Description *follower : target.followers) touch(follower);
+    if (is_full && target.is_connection() && sender) know(sender, sender->conditions & ~OUT);
 }
 
 // What a receive has left: where nothing is shut, gone or reset, input is what the queue has.
@@ -180,8 +184,8 @@ void World::received(Description &own, const Reply &reply, bool peeks) {
     else if (!own.unread) know(&own, own.conditions & ~IN);
     if (!took || had_room) return;
     if (own.is_connection() && own.peer) return know(own.peer, own.peer->conditions | OUT);
+    touch_senders(*this, nullptr, own);        // it may be its own
     know(&own, own.conditions);                // who waits for room here goes on
-    for (Description *sender : own.followers) touch(sender);
 }
 
 bool World::is_empty(const Description &own) const {
