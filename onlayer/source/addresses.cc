@@ -8,6 +8,8 @@
 #include "calls.h"
 #include "text.h"
 
+static const char NOBODY[] = "a:onlayer%20nobody";    // no such socket: the layer answers ECONNREFUSED, in its order of errors
+
 void forget_path(World &world, Process &process, const std::string &word) {
     world.say(process, "unlink " + word);
     world.names.forget(word);
@@ -54,7 +56,7 @@ static Address path_address(World &world, Call &call, const std::string &path) {
     }
     bool is_socket = is_socket_file(file.get());
     out.word = world.names.word_of(key_of(file.get()));
-    if (out.word.empty()) out.word = "-", out.is_outside = is_socket, out.error = is_socket ? 0 : ECONNREFUSED;
+    if (out.word.empty()) out.word = is_socket ? "-" : NOBODY, out.is_outside = is_socket;
     else if (faccessat(file.get(), "", W_OK, AT_EMPTY_PATH | AT_EACCESS)) out.error = errno;
     return out;
 }

@@ -11,6 +11,7 @@ struct Number {                                // a number of the program's that
     Process *process;
     Ref file;
     int layer;                                 // its number in the layer's table
+    unsigned long checked = 0;                 // at which of the process's changes
 };
 typedef std::shared_ptr<Number> NumberRef;
 
@@ -19,11 +20,13 @@ struct Process {
     std::string program;
     std::map<int, NumberRef> table;            // by the real number
     std::map<int, ino_t> closing;              // numbers that are being closed, with the placeholder's inode
+    unsigned long changes = 1;                 // calls that may have another file behind a number
     std::set<int> tasks;
     uid_t user = 0;
     gid_t group = 0;
     std::vector<gid_t> groups;
     bool ids_changed = true, hides = false;    // hides: it asked not to be dumpable
+    bool is_watched = false;                   // it has the filter that tells all of its calls
 };
 
 // What has to happen before a call that waits can go on.
@@ -31,6 +34,7 @@ enum class Until { INPUT, OUTPUT, CHANGE, TIME };
 
 struct Call {
     u64 id = 0;                                // of the notification
+    int listener = -1;                         // that told it
     int task = 0;
     Process *process = nullptr;
     seccomp_data data{};

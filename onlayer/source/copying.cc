@@ -16,8 +16,9 @@ static const double PAUSE = 0.002;             // seconds until a pipe is looked
 // Sends bytes of onlayer's own: as those of the program, but for where they stand.
 static Reply send_bytes(World &world, Call &call, const std::string &bytes) {
     Description *own = call.number->file.get(), *target = own->peer;
-    Reply reply = world.say(*call.process, "send " + text(call.number->layer) + " - " + hex(bytes) + " - -", {target, own});
-    if (reply.ok() && target) world.placeholders.arrive(*target);
+    Reply reply = world.say(*call.process, "send " + text(call.number->layer) + " - " + hex(bytes) + " - -");
+    if (reply.ok() && target) world.arrived(own, *target, reply.number(1));
+    else if (reply.error != EAGAIN) world.touch(own), world.touch(target);
     return reply;
 }
 static Result fail_to_copy(World &world, Call &call, int error) {

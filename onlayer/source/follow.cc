@@ -114,12 +114,10 @@ void Follow::read_conditions(const std::vector<Watched> &files) {
     for (size_t i = 0; i < files.size(); i++) on_conditions(files[i].file, conditions[i]);
 }
 
-Reply Follow::make(int process, const std::string &words, const std::vector<Watched> &may_change) {
-    say(text(process) + " " + words + "\n" + poll_lines(may_change));
+Reply Follow::make(int process, const std::string &words) {
+    say(text(process) + " " + words + "\n");
     made++;
-    Reply reply = read_reply();
-    read_conditions(may_change);
-    return reply;
+    return read_reply();
 }
 
 void Follow::look(const std::vector<Watched> &files) {

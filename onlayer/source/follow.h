@@ -21,7 +21,7 @@ class Follow : public Layer {
 
 public:
     Follow(const std::string &program, const std::string &script_path, const std::vector<std::string> &header);
-    Reply make(int process, const std::string &words, const std::vector<Watched> &may_change) override;
+    Reply make(int process, const std::string &words) override;
     void look(const std::vector<Watched> &files) override;
     void note(const std::string &comment) override;
     void flush() override { fflush(script.get()); }

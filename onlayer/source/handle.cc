@@ -31,6 +31,15 @@ static int planned_failure(World &world, Call &call) {
     return 0;
 }
 
+// A socket of another process would come to this one without a call of the layer's.
+static Result answer_pidfd_getfd(World &world, Call &call) {
+    Process *other = world.process_of(pid_behind(call.task, call.argument(0)));
+    if (!other) return pass();
+    auto found = other->table.find(call.argument(1));
+    if (found == other->table.end() || !found->second->file->is_socket()) return pass();
+    return world.refuse(call, EPERM, "a socket of the layer can't be taken out of a process");
+}
+
 static Result of_other_file(World &world, Call &call) {
     int number = call.argument(0);
     if (call.nr() == SYS_splice && world.find_socket(call, call.argument(2))) return answer_splice(world, call);
@@ -57,14 +66,17 @@ Result World::handle(Call &call) {
     auto of_a_socket = OF_SOCKETS.find(call.nr());
     if (of_a_socket != OF_SOCKETS.end()) return of_socket(*this, call, of_a_socket->second);
     auto other = OTHERS.find(call.nr());
-    if (other != OTHERS.end()) return other->second(*this, call);
+    if (other != OTHERS.end()) {
+        call.process->changes++;
+        return other->second(*this, call);
+    }
     switch (call.nr()) {
     case SYS_setuid: case SYS_setgid: case SYS_setreuid: case SYS_setregid: case SYS_setresuid: case SYS_setresgid: case SYS_setgroups:
         call.process->ids_changed = true;
         return pass();
     case SYS_io_uring_setup: return refuse(call, ENOSYS, "its rings bypass the supervisor");
     case SYS_ptrace: return refuse(call, EPERM, "onlayer traces the program itself");
-    case SYS_pidfd_getfd: return pass();
+    case SYS_pidfd_getfd: return answer_pidfd_getfd(*this, call);
     }
     return pass();
 }

@@ -100,6 +100,13 @@ std::string link_of(int pid, int number) {
     ssize_t n = readlink(proc_path(pid, "fd/" + std::to_string(number)).c_str(), name, sizeof name);
     return n > 0 ? std::string(name, n) : "?";
 }
+int pid_behind(int task, int pidfd) {
+    int pid = -1;
+    char line[256];
+    Stream file(fopen(proc_path(task, "fdinfo/" + std::to_string(pidfd)).c_str(), "re"), fclose);
+    while (file && fgets(line, sizeof line, file.get())) sscanf(line, "Pid: %d", &pid);
+    return pid;
+}
 
 double now() {
     timespec time;

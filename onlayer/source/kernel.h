@@ -53,6 +53,7 @@ struct Status {                                // of /proc/TASK/status
 Status status_of(int task);
 std::string program_of(int task);
 std::string link_of(int pid, int number);      // what /proc says that a number leads to
+int pid_behind(int task, int pidfd);           // -1 where the number is no pidfd
 std::string proc_path(int task, const std::string &rest);
 double now();
 

@@ -1,5 +1,4 @@
-// What the supervisor asks of the layer. `Follow` asks a program, uxrun, line by line; a session that tells readiness by itself
-// needs no `may_change`.
+// What the supervisor asks of the layer. `Follow` asks a program, uxrun, line by line.
 #pragma once
 #include <functional>
 #include <set>
@@ -31,9 +30,8 @@ struct Watched {
 class Layer {
 public:
     virtual ~Layer() = default;
-    // Makes a call of a process; the conditions of those that it may change are told before it returns.
-    virtual Reply make(int process, const std::string &words, const std::vector<Watched> &may_change = {}) = 0;
-    virtual void look(const std::vector<Watched> &files) = 0;
+    virtual Reply make(int process, const std::string &words) = 0;
+    virtual void look(const std::vector<Watched> &files) = 0;       // their conditions are told before it returns
     virtual void note(const std::string &comment) = 0;
     virtual void flush() = 0;
     virtual unsigned long calls() const = 0;

@@ -144,7 +144,7 @@ Result answer_listen(World &world, Call &call) {
     Reply reply = world.say(*call.process, "listen " + text(call.number->layer) + " " + text(call.argument(1)));
     if (reply.error) return fail(reply.error);
     own.listening = true;
-    own.listener_pid = call.process->pid, own.listener_groups = call.process->groups;
+    own.listener = {call.process->pid, call.process->user, call.process->group}, own.listener_groups = call.process->groups;
     world.placeholders.listen(own);
     if (own.gate && !listen(own.gate.get(), 128)) world.outside->watch_gate(&own);
     world.touch(&own);
@@ -154,13 +154,13 @@ Result answer_listen(World &world, Call &call) {
 // ---- outside of the layer
 
 // A bound socket has its name on the gate, so the program gets that in the placeholder's place.
-static bool swap_for_gate(World &world, Call &call, Description &file) {
+static bool swap_for_gate(Call &call, Description &file) {
     fcntl(file.gate.get(), F_SETFL, fcntl(file.shown.get(), F_GETFL));
     for (auto &[number, entry] : call.process->table) {
         if (entry->file.get() != &file) continue;
         seccomp_notif_addfd add = {};
         add.id = call.id, add.srcfd = file.gate.get(), add.flags = SECCOMP_ADDFD_FLAG_SETFD, add.newfd = number;
-        if (ioctl(world.listener.get(), SECCOMP_IOCTL_NOTIF_ADDFD, &add) < 0) return false;
+        if (ioctl(call.listener, SECCOMP_IOCTL_NOTIF_ADDFD, &add) < 0) return false;
     }
     return true;
 }
@@ -182,7 +182,7 @@ Result go_outside(World &world, Call &call) {
     if (passes) setsockopt(real, SOL_SOCKET, SO_PASSCRED, &passes, sizeof passes);
     sockaddr nobody = {AF_UNSPEC, {}};
     if (file->kind == DATAGRAM && !file->gate) connect(real, &nobody, sizeof nobody);
-    if (file->gate && !swap_for_gate(world, call, *file)) return fail(ECONNREFUSED);
+    if (file->gate && !swap_for_gate(call, *file)) return fail(ECONNREFUSED);
     for (auto &process : world.processes) {
         std::vector<int> numbers;
         for (auto &[number, entry] : process->table)
@@ -196,7 +196,7 @@ Ref join(World &world, Description *client, Description *listener) {
     Ref end = world.make(client->kind);
     end->lead_to(client), client->lead_to(end.get());
     end->connected = client->connected = true;
-    client->peer_pid = listener->listener_pid, client->peer_groups = listener->listener_groups;
+    client->peer_pid = listener->listener.pid, client->peer_groups = listener->listener_groups;
     listener->pending.push_back(end);
     world.placeholders.connect(*client);
     world.touch(listener);
@@ -225,6 +225,10 @@ Result answer_accept(World &world, Call &call) {
     Description *own = call.number->file.get();
     unsigned flags = call.nr() == SYS_accept4 ? call.data.args[3] : 0;
     if (own->listening && !has_room(call, 1)) return fail(EMFILE);
+    if (own->listening && own->pending.empty()) {
+        Result result = world.wait(call, own, Until::INPUT, 0, SO_RCVTIMEO);
+        if (result.way == Result::WAIT) return result;
+    }
     Reply reply = world.say(*call.process, "accept " + text(call.number->layer) + " -");
     if (reply.error == EAGAIN) return world.wait(call, own, Until::INPUT, 0, SO_RCVTIMEO);
     if (reply.error) return fail(reply.error);

@@ -26,6 +26,7 @@ static const char HELP[] =
     "  --json            tells in JSON\n"
     "  --quiet           leaves out the paragraph at the end\n"
     "  --verbose         notes each call of the program in the script\n"
+    "  --look            asks the layer for readiness also where it follows from a reply, and ends where it is another\n"
     "  --help, --version\n"
     "\n"
     "The status is the command's, 128 and the signal's number where one ended it, 125 where onlayer itself fails, and 2 where\n"
@@ -78,12 +79,12 @@ static void find_uxrun(Options &options) {
         throw Fault("there is no uxrun at " + options.uxrun + ": build it (`cd crates/uxrun && rt run -- - < stdin`), or name one by the variable UXRUN");
 }
 
-enum { QLIMIT = 256, NOFILE, FAIL, ORDER, ORDERS, SCRIPT, HOLDERS, AUDIT, LOG, JSON, QUIET, VERBOSE, UXRUN, HELPS, VERSION };
+enum { QLIMIT = 256, NOFILE, FAIL, ORDER, ORDERS, SCRIPT, HOLDERS, AUDIT, LOG, JSON, QUIET, VERBOSE, LOOK, UXRUN, HELPS, VERSION };
 
 static const option LONG_OPTIONS[] = {
     {"qlimit", 1, nullptr, QLIMIT}, {"nofile", 1, nullptr, NOFILE}, {"fail", 1, nullptr, FAIL}, {"order", 1, nullptr, ORDER},
     {"orders", 1, nullptr, ORDERS}, {"script", 1, nullptr, SCRIPT}, {"holders", 1, nullptr, HOLDERS}, {"audit", 1, nullptr, AUDIT},
-    {"log", 1, nullptr, LOG}, {"json", 0, nullptr, JSON}, {"quiet", 0, nullptr, QUIET}, {"verbose", 0, nullptr, VERBOSE},
+    {"log", 1, nullptr, LOG}, {"json", 0, nullptr, JSON}, {"quiet", 0, nullptr, QUIET}, {"verbose", 0, nullptr, VERBOSE}, {"look", 0, nullptr, LOOK},
     {"uxrun", 1, nullptr, UXRUN}, {"help", 0, nullptr, HELPS}, {"version", 0, nullptr, VERSION}, {nullptr, 0, nullptr, 0}};
 
 static void take_option(Options &options, int option) {
@@ -100,6 +101,7 @@ static void take_option(Options &options, int option) {
     case JSON: options.json = true; break;
     case QUIET: options.quiet = true; break;
     case VERBOSE: options.verbose = true; break;
+    case LOOK: options.looks = true; break;
     case UXRUN: options.uxrun = optarg; break;
     case HELPS: fputs(HELP, stdout); exit(fflush(stdout) ? 125 : 0);
     case VERSION: puts("onlayer 0.4.0"); exit(fflush(stdout) ? 125 : 0);

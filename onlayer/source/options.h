@@ -15,7 +15,7 @@ struct Options {
     int queue_limit = 0, table_limit = 4096, orders = 0;
     std::optional<unsigned> order;
     std::vector<Failure> failures;
-    bool json = false, quiet = false, verbose = false;
+    bool json = false, quiet = false, verbose = false, looks = false;
     std::vector<char *> command;
 };
 

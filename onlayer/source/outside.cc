@@ -75,7 +75,7 @@ void Outside::admit(Description *server) {
     world.counts.guests++;
     world.guest_pids[bridge->process] = who.pid;
     world.layer->note("process " + text(who.pid) + " is " + text(bridge->process) + " " + program_of(who.pid) + ", outside");
-    Reply reply = world.say_as(bridge->process, server->kind == STREAM ? "socket stream -" : "socket seq -");
+    Reply reply = world.layer->make(bridge->process, server->kind == STREAM ? "socket stream -" : "socket seq -");
     bridge->number = (int)reply.number(1);
     bridge->file = world.make(server->kind);
     bridge->file->holders.insert({bridge->process, bridge->number});
@@ -88,7 +88,7 @@ void Outside::admit(Description *server) {
 // Whether the guest is connected now.
 bool Outside::knock(Bridge &bridge) {
     Description *server = bridge.server;
-    Reply reply = world.say_as(bridge.process, "connect " + text(bridge.number) + " " + server->name);
+    Reply reply = world.layer->make(bridge.process, "connect " + text(bridge.number) + " " + server->name);
     if (reply.error == EAGAIN) return false;
     bridge.server = nullptr;
     if (reply.error) {
@@ -159,7 +159,7 @@ bool Outside::fetch_from_real(Bridge &bridge) {
         pollfd end = {bridge.real.get(), 0, 0};
         poll(&end, 1, 0);
         if (n < 0 || end.revents & POLLHUP) leave(bridge);
-        else world.say_as(bridge.process, "shut " + text(bridge.number) + " w"), world.touch(bridge.file->peer), world.touch(bridge.file.get());
+        else world.layer->make(bridge.process, "shut " + text(bridge.number) + " w"), world.touch(bridge.file->peer), world.touch(bridge.file.get());
         return true;
     }
     bridge.to_layer = bytes.substr(0, n);
@@ -171,12 +171,11 @@ bool Outside::send_to_layer(Bridge &bridge) {
     if (bridge.to_layer.empty()) return false;
     Description *peer = bridge.file->peer;
     std::string words = "send " + text(bridge.number) + " - " + hex(bridge.to_layer) + " " + rights_word(bridge.rights_to_layer) + " -";
-    Reply reply = world.say_as(bridge.process, words, {bridge.file.get(), peer});
+    Reply reply = world.layer->make(bridge.process, words);
     if (reply.error == EAGAIN) return false;
-    if (reply.ok() && peer) {
-        if (!bridge.rights_to_layer.empty()) peer->passing.push_back(files_in(bridge.rights_to_layer));
-        world.placeholders.arrive(*peer);
-    }
+    if (reply.ok() && peer && !bridge.rights_to_layer.empty()) peer->passing.push_back(files_in(bridge.rights_to_layer));
+    if (reply.ok() && peer) world.arrived(bridge.file.get(), *peer, reply.number(1));
+    else world.touch(bridge.file.get()), world.touch(peer);
     close_rights(bridge.process, bridge.rights_to_layer);
     bridge.rights_to_layer.clear();
     if (reply.error) bridge.to_layer.clear();
@@ -227,9 +226,8 @@ void Outside::take_rights_out(Bridge &bridge, const Reply &reply) {
 
 bool Outside::fetch_from_layer(Bridge &bridge) {
     if (!bridge.to_real.empty() || bridge.layer_is_over || !(bridge.file->conditions & (IN | HUP | ERR))) return false;
-    Description *peer = bridge.file->peer;
-    Reply reply = world.say_as(bridge.process, "recv " + text(bridge.number) + " " + text(PIECE) + " rights:" + text(MOST_RIGHTS) + " -",
-                               {bridge.file.get(), peer});
+    Reply reply = world.layer->make(bridge.process, "recv " + text(bridge.number) + " " + text(PIECE) + " rights:" + text(MOST_RIGHTS) + " -");
+    world.received(*bridge.file, reply, false);
     if (reply.error == EAGAIN) return false;
     if (reply.error || !reply.number(1)) {
         bridge.layer_is_over = true;
@@ -330,10 +328,10 @@ std::pair<int, int> Outside::sender_of(const std::string &name, const ucred &who
     if (process < 0) return {-1, -1};
     world.counts.guests++;
     world.guest_pids[process] = who.pid;
-    int number = (int)world.say_as(process, "socket dgram -").number(1);
+    int number = (int)world.layer->make(process, "socket dgram -").number(1);
     if (!name.empty()) {
         std::string alias = world.names.alias();
-        world.say_as(process, "bind " + text(number) + " " + alias);
+        world.layer->make(process, "bind " + text(number) + " " + alias);
         world.names.spell(alias, name);
     }
     return senders[key] = {process, number};
@@ -341,10 +339,11 @@ std::pair<int, int> Outside::sender_of(const std::string &name, const ucred &who
 
 bool Outside::pass_datagram(Description *server, const Datagram &datagram) {
     std::string words = "send " + text(datagram.number) + " " + server->name + " " + hex(datagram.bytes) + " " + rights_word(datagram.rights) + " -";
-    Reply reply = world.say_as(datagram.process, words, {server});
+    Reply reply = world.layer->make(datagram.process, words);
     if (reply.error == EAGAIN) return false;
     if (reply.ok() && !datagram.rights.empty()) server->passing.push_back(files_in(datagram.rights));
-    if (reply.ok()) world.placeholders.arrive(*server);
+    if (reply.ok()) world.arrived(nullptr, *server, reply.number(1));
+    else world.touch(server);
     close_rights(datagram.process, datagram.rights);
     return true;
 }

@@ -26,7 +26,13 @@ static void drain(int socket) {
     char bytes[8192];
     while (recv(socket, bytes, sizeof bytes, MSG_DONTWAIT) > 0) {}
 }
-static void put_byte(int socket) { send(socket, "!", 1, MSG_DONTWAIT | MSG_NOSIGNAL); }
+static bool put_byte(int socket) { return send(socket, "!", 1, MSG_DONTWAIT | MSG_NOSIGNAL) == 1; }
+static void add_input(Description &file) { file.shown_bytes += put_byte(file.hidden.get()); }
+static void take_input(Description &file) {
+    char bytes[4096];
+    for (ssize_t n = 1; file.shown_bytes > 0 && n > 0; file.shown_bytes -= n) n = recv(file.shown.get(), bytes, sizeof bytes, MSG_DONTWAIT);
+    file.shown_bytes = 0;
+}
 
 File &Placeholders::listener_of(Kind kind) {
     File &listener = kind == STREAM ? streams : records;
@@ -115,7 +121,7 @@ void Placeholders::show(Description &file, unsigned conditions) {
     if (file.listening) return show_listener(file, conditions & IN);
     if (!file.hidden) return show_lonely(file, conditions);
     unsigned changed = file.shown_conditions ^ conditions;
-    if (changed & IN) conditions & IN ? put_byte(file.hidden.get()) : drain(file.shown.get());
+    if (changed & IN) conditions & IN ? add_input(file) : take_input(file);
     bool is_datagram = file.kind == DATAGRAM, hangs_up = !is_datagram && conditions & HUP && !file.shown_hup;
     if (hangs_up && !(file.connected && file.peer)) return close_other_end(file, conditions);
     if (conditions & RDHUP && changed & RDHUP) shutdown(file.hidden.get(), SHUT_WR);
@@ -125,5 +131,5 @@ void Placeholders::show(Description &file, unsigned conditions) {
 }
 
 void Placeholders::arrive(Description &file) {
-    if (file.shown && file.hidden && file.shown_conditions & IN) put_byte(file.hidden.get());
+    if (file.shown && file.hidden && file.shown_conditions & IN) add_input(file);
 }

@@ -56,14 +56,9 @@ static void take_rights(Description *own, Got &got, const std::vector<int> &numb
 }
 
 static Reply say_receive(World &world, Call &call, size_t n, size_t space, unsigned flags) {
-    Description *own = call.number->file.get(), *peer = own->kind == DATAGRAM ? nullptr : own->peer;
-    if (peer && peer->conditions & OUT) peer = nullptr;    // a receive makes room, and takes none
     std::string words = "recv " + text(call.number->layer) + " " + text(std::min(n, MOST_BYTES)) + " " + text(std::min(space, MOST_SPACE));
-    Reply reply = world.say(*call.process, words + " " + letters_of(flags), {own, peer});
-    if (reply.ok() && own->kind == DATAGRAM) {
-        for (Description *sender : own->followers) world.touch(sender);
-        world.touch(own);
-    }
+    Reply reply = world.say(*call.process, words + " " + letters_of(flags));
+    world.received(*call.number->file, reply, flags & MSG_PEEK);
     return reply;
 }
 
@@ -91,6 +86,10 @@ static Result deliver_rights(World &world, Call &call, Got got, Receiver finish)
 Result receive(World &world, Call &call, size_t n, size_t space, unsigned flags, Receiver finish) {
     if (flags & MSG_OOB) return world.refuse(call, EINVAL, "the layer has no out-of-band data");
     Description *own = call.number->file.get();
+    if (n && world.is_empty(*own)) {           // the layer isn't asked before something has come, but where that isn't waited for
+        Result result = world.wait(call, own, Until::INPUT, flags, SO_RCVTIMEO);
+        if (result.way == Result::WAIT) return result;
+    }
     for (;;) {
         Reply reply = say_receive(world, call, n - call.got.size(), space, flags);
         if (reply.error == EAGAIN) {

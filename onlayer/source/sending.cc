@@ -15,7 +15,7 @@ static const int NO_NUMBER = 4095;             // what no table has open
 struct Items {
     std::vector<int> rights;
     std::string credentials;
-    bool has_rights = false, is_readable = true;
+    bool is_readable = true;
 };
 
 static std::string credentials_word(const World &world, const Call &call, const ucred &given) {
@@ -25,29 +25,30 @@ static std::string credentials_word(const World &world, const Call &call, const 
     return "c:" + text(number) + "," + text(given.uid) + "," + text(given.gid);
 }
 
+// Whether the item is one of those that Linux knows, and as long as it has to be.
+static bool read_item(const World &world, const Call &call, const cmsghdr &head, const char *data, Items &items) {
+    size_t length = head.cmsg_len - sizeof head, before = items.rights.size();
+    ucred given;
+    if (head.cmsg_type == SCM_RIGHTS) {
+        items.rights.resize(before + length / sizeof(int));
+        memcpy(items.rights.data() + before, data, length / sizeof(int) * sizeof(int));
+        return true;
+    }
+    if (head.cmsg_type != SCM_CREDENTIALS || length != sizeof given) return false;
+    memcpy(&given, data, sizeof given);
+    items.credentials = credentials_word(world, call, given);
+    return true;
+}
+
+// The items of a control buffer, by Linux's walk (__scm_send): an unknown level is skipped, the numbers of a second item of
+// rights follow those of the first, and a length that is no multiple of 4 is rounded down.
 static Items read_items(const World &world, const Call &call, const std::string &buffer) {
     Items items;
-    for (size_t from = 0; from + sizeof(cmsghdr) <= buffer.size();) {
-        cmsghdr head;
+    cmsghdr head;
+    for (size_t from = 0; from + sizeof head <= buffer.size() && items.is_readable; from += CMSG_ALIGN(head.cmsg_len)) {
         memcpy(&head, &buffer[from], sizeof head);
-        bool fits = head.cmsg_len >= sizeof head && head.cmsg_len <= buffer.size() - from;
-        if (!fits || head.cmsg_level != SOL_SOCKET || (head.cmsg_type != SCM_RIGHTS && head.cmsg_type != SCM_CREDENTIALS)) {
-            items.is_readable = false;
-            return items;
-        }
-        const char *data = &buffer[from] + sizeof head;
-        size_t length = head.cmsg_len - sizeof head;
-        if (head.cmsg_type == SCM_RIGHTS) {
-            items.has_rights = true;
-            size_t before = items.rights.size();
-            items.rights.resize(before + length / sizeof(int));
-            memcpy(items.rights.data() + before, data, length / sizeof(int) * sizeof(int));
-        } else if (length >= sizeof(ucred)) {
-            ucred given;
-            memcpy(&given, data, sizeof given);
-            items.credentials = credentials_word(world, call, given);
-        }
-        from += CMSG_ALIGN(head.cmsg_len);
+        items.is_readable = head.cmsg_len >= sizeof head && head.cmsg_len <= buffer.size() - from;
+        if (items.is_readable && head.cmsg_level == SOL_SOCKET) items.is_readable = read_item(world, call, head, &buffer[from] + sizeof head, items);
     }
     return items;
 }
@@ -61,7 +62,7 @@ Control read_control(World &world, Call &call, u64 at, size_t length) {
     if (out.error) return out;
     Items items = read_items(world, call, buffer);
     if (!items.is_readable) {
-        out.word = "x:" + hex(buffer);         // the layer judges it
+        out.word = "x:" + hex(buffer);         // the layer refuses it, in its order of errors
         return out;
     }
     std::string words;
@@ -79,14 +80,20 @@ Control read_control(World &world, Call &call, u64 at, size_t length) {
     return out;
 }
 
+static bool is_of_unix(const File &socket) {
+    int domain = 0;
+    socklen_t length = sizeof domain;
+    return socket && !getsockopt(socket.get(), SOL_SOCKET, SO_DOMAIN, &domain, &length) && domain == AF_UNIX;
+}
+
 bool passes_own_socket(World &world, Call &call) {
     msghdr head;
     if (call.process->table.empty() || !read_value(call.task, call.data.args[1], head) || !head.msg_control) return false;
     std::string buffer(std::min<size_t>(head.msg_controllen, 65536), 0);
     if (buffer.empty() || !read_memory(call.task, (u64)head.msg_control, &buffer[0], buffer.size())) return false;
-    for (int right : read_items(world, call, buffer).rights)
-        if (world.find_socket(call, right)) return true;
-    return false;
+    bool has_own = false;
+    for (int right : read_items(world, call, buffer).rights) has_own = has_own || world.find_socket(call, right);
+    return has_own && is_of_unix(take_file(call.process->pid, call.argument(0)));    // others don't take rights, and say so
 }
 
 // ---- sends
@@ -99,10 +106,7 @@ static Description *target_of(const World &world, const Call &call, const Addres
 
 static Result wait_to_send(World &world, Call &call, Description *target, unsigned flags) {
     Description *own = call.number->file.get();
-    if (own->kind == DATAGRAM) {               // a refused call changes nothing
-        world.untouch(target), world.untouch(own);
-        return world.wait(call, target ? target : own, Until::CHANGE, flags, SO_SNDTIMEO);
-    }
+    if (own->kind == DATAGRAM) return world.wait(call, target ? target : own, Until::CHANGE, flags, SO_SNDTIMEO);
     return world.wait(call, own, Until::OUTPUT, flags, SO_SNDTIMEO);
 }
 
@@ -113,12 +117,10 @@ static Result fail_to_send(World &world, Call &call, Description *target, int er
     return result;
 }
 
-// Something has come to the target: of a connection its input is known to be there, without a look.
-static void take_in(Description *target, const Control &control, size_t done, World &world) {
+static void take_in(World &world, Description *own, Description *target, const Control &control, size_t done, long n) {
     if (!target) return;
     if (!done && !control.rights.empty()) target->passing.push_back(control.rights);
-    if (target->is_connection()) world.know(target, target->conditions | IN);
-    world.placeholders.arrive(*target);
+    world.arrived(own, *target, n);
 }
 
 // A datagram of a bound socket to one outside: it is sent from where programs outside see that name.
@@ -144,13 +146,13 @@ Result send_parts(World &world, Call &call, const Parts &parts, const Address &t
     for (;;) {
         if (!gather(call.task, parts, call.done, own->is_stream() ? PIECE : PIECE + 1, data)) return call.done ? done(call.done) : fail(EFAULT);
         std::string words = before + hex(data) + " " + (call.done ? "-" : control.word) + " " + letters;
-        Reply reply = own->is_connection() ? world.say(*call.process, words, {own}) : world.say(*call.process, words, {target, own});
+        Reply reply = world.say(*call.process, words);
         if (reply.error == EAGAIN) {
             Result result = wait_to_send(world, call, target, flags);
             return result.way != Result::WAIT && call.done ? done(call.done) : result;
         }
         if (reply.error) return call.done ? done(call.done) : fail_to_send(world, call, target, reply.error, flags);
-        if (reply.number(1) || !own->is_stream()) take_in(target, control, call.done, world);
+        if (reply.number(1) || !own->is_stream()) take_in(world, own, target, control, call.done, reply.number(1));
         call.done += reply.number(1);
         if (!own->is_stream() || call.done >= all || !reply.number(1)) return done(call.done);
     }
@@ -162,9 +164,9 @@ Result send_message(World &world, Call &call, u64 at, unsigned flags) {
     msghdr &head = message.head;
     Address to;
     if (head.msg_name && head.msg_namelen) to = read_address(world, call, (u64)head.msg_name, head.msg_namelen, false);
-    if (to.error) return fail(to.error);
     Control control = read_control(world, call, (u64)head.msg_control, head.msg_control ? head.msg_controllen : 0);
-    if (control.error) return fail(control.error);
+    if (to.error && control.word[0] == 'x') control.error = EINVAL;    // what was given is judged in the order of the layer
+    if (control.error || to.error) return fail(control.error ? control.error : to.error);
     return send_parts(world, call, message.parts, to, control, flags);
 }
 

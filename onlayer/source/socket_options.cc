@@ -26,7 +26,7 @@ static Result give_value(const Call &call, const std::string &value) {
 }
 
 static Result get_peer(World &world, Call &call) {
-    ucred peer = {0, (uid_t)-1, (gid_t)-1};
+    ucred peer = call.number->file->listener;
     Reply reply = world.say(*call.process, "getopt " + text(call.number->layer) + " peercred");
     if (reply.error && reply.error != ENOTCONN) return fail(reply.error);
     if (reply.ok()) peer = {world.real_pid(reply.number(1)), (uid_t)reply.number(2), (gid_t)reply.number(3)};
@@ -43,14 +43,14 @@ static Result get_peer_groups(Call &call) {
     return write_memory(call.task, call.data.args[3], own.peer_groups.data(), length) ? done(0) : fail(EFAULT);
 }
 
-static Result get_peer_pidfd(World &world, Call &call) {
+static Result get_peer_pidfd(Call &call) {
     const Description &own = *call.number->file;
     if (!own.peer_pid) return fail(ENODATA);
     File file((int)syscall(SYS_pidfd_open, own.peer_pid, 0));
     if (!file) return fail(errno);
     seccomp_notif_addfd add = {};
     add.id = call.id, add.srcfd = file.get(), add.newfd_flags = O_CLOEXEC;
-    int number = ioctl(world.listener.get(), SECCOMP_IOCTL_NOTIF_ADDFD, &add);
+    int number = ioctl(call.listener, SECCOMP_IOCTL_NOTIF_ADDFD, &add);
     return number < 0 ? fail(errno) : give_value(call, bytes_of(number));
 }
 
@@ -80,7 +80,7 @@ Result answer_getsockopt(World &world, Call &call) {
     switch (option) {
     case SO_PEERCRED: return get_peer(world, call);
     case SO_PEERGROUPS: return get_peer_groups(call);
-    case SO_PEER_PIDFD: return get_peer_pidfd(world, call);
+    case SO_PEER_PIDFD: return get_peer_pidfd(call);
     case SO_SNDBUF: return give_value(call, bytes_of(call.number->file->send_room));
     case SO_RCVBUF: return give_value(call, bytes_of(call.number->file->receive_room));
     case SO_PEEK_OFF: return give_value(call, bytes_of(-1));
@@ -95,7 +95,8 @@ static Result set_credentials(World &world, Call &call, int value) {
     world.touch(&own);
     if (reply.error) return fail(reply.error);
     own.passes_credentials = value;
-    if (!value || !own.name.empty() || own.connected || own.peer) return done(0);
+    bool is_tied = own.peer || (own.is_connection() && own.connected);    // a server's end has its listener's name
+    if (!value || !own.name.empty() || is_tied) return done(0);
     Reply name = world.say(*call.process, "sockname " + text(call.number->layer));    // it has been given one
     if (name.ok() && name.word(1) != "u") own.name = name.word(1), world.names.bind(own.name, &own);
     return done(0);
@@ -138,7 +139,7 @@ Result answer_queue_size(World &world, Call &call) {
     auto reader = reads ? std::optional<Watched>(Watched{&own, call.process->layer, call.number->layer}) : world.watched(own.peer);
     int value = 0;
     if (reader) {
-        Reply reply = world.say_as(reader->process, "recv " + text(reader->number) + " 1048576 0 pt");
+        Reply reply = world.layer->make(reader->process, "recv " + text(reader->number) + " 1048576 0 pt");
         if (reply.ok()) value = (int)reply.number(1);
     }
     return write_value(call.task, call.data.args[2], value) ? done(0) : fail(EFAULT);

@@ -1,7 +1,7 @@
 #include "supervisor.h"
 #include <errno.h>
 #include <linux/audit.h>
-#include <poll.h>
+#include <linux/close_range.h>
 #include <string.h>
 #include <sys/ioctl.h>
 #include <sys/resource.h>
@@ -14,6 +14,7 @@
 #include "text.h"
 
 static const int IDLE = 1000;                  // milliseconds after which a deadlock is looked for
+static const int MOST_READY = 16;              // events at once
 
 static sigset_t watched_signals() {
     sigset_t all;
@@ -33,8 +34,9 @@ bool Supervisor::resume(Call &call) {
         if (before.task != call.task) continue;
         if (is_same(before.data, call.data)) {
             u64 id = call.id;
+            int listener = call.listener;
             call = std::move(before);
-            call.id = id;
+            call.id = id, call.listener = listener;
         }
         world.waiting.erase(world.waiting.begin() + i);
         break;
@@ -53,20 +55,17 @@ bool Supervisor::resume(Call &call) {
     return true;
 }
 
-// A program whose calls have other numbers than these: it can't be answered.
-static void stop_foreign(World &world, Call &call) {
-    world.counts.refused++;
-    world.complain("refused: " + world.title(*call.process) + " makes calls of another architecture than x86-64; it is killed");
-    kill(call.process->pid, SIGSYS);
-    kill(call.process->pid, SIGKILL);
+// A call that has the program's tasks go on with tables of their own.
+static bool parts_tables(const Call &call) {
+    return call.nr() == SYS_unshare || (call.nr() == SYS_close_range && call.argument(2) & CLOSE_RANGE_UNSHARE);
 }
 
-void Supervisor::take_notification() {
+void Supervisor::take_notification(int listener) {
     seccomp_notif told;
     memset(&told, 0, sizeof told);
-    if (ioctl(world.listener.get(), SECCOMP_IOCTL_NOTIF_RECV, &told)) return;
+    if (ioctl(listener, SECCOMP_IOCTL_NOTIF_RECV, &told)) return;
     Call call;
-    call.id = told.id, call.task = (int)told.pid, call.data = told.data;
+    call.listener = listener, call.id = told.id, call.task = (int)told.pid, call.data = told.data;
     if (!world.by_task.count(call.task)) tracer.reap();
     auto found = world.by_task.find(call.task);
     if (found == world.by_task.end()) {
@@ -74,14 +73,15 @@ void Supervisor::take_notification() {
         return world.answer(call, pass());
     }
     call.process = found->second;
-    if (told.data.arch != AUDIT_ARCH_X86_64 || told.data.nr & 0x40000000) return stop_foreign(world, call);
+    if (told.data.arch != AUDIT_ARCH_X86_64 || told.data.nr & 0x40000000) return world.stop_foreign(*call.process);
     if (resume(call)) return;
-    if (call.nr() == SYS_unshare) tracer.split(call.task);
+    if (parts_tables(call)) tracer.split(call.task), call.process = world.by_task[call.task];
     unsigned long lines = world.layer->calls();
     if (world.options.verbose) world.layer->note(world.title(*call.process) + " " + call_name(call.nr()) + " " + text(call.argument(0)));
     Result result = world.handle(call);
     if (result.way != Result::PASS || world.layer->calls() != lines) world.counts.answered++, world.counts.by_call[call.nr()]++;
     else world.counts.passed++;
+    int task = call.task;
     if (result.way == Result::WAIT) {
         world.waiting.push_back(std::move(call));
         return world.settle();
@@ -89,6 +89,7 @@ void Supervisor::take_notification() {
     world.settle();                            // what it changed is shown before it is answered
     world.answer(call, result);
     world.let_go(std::move(call.number));
+    if (result.way != Result::LATER) tracer.send_put_off(task);
 }
 
 void Supervisor::take_signals() {
@@ -113,18 +114,25 @@ void Supervisor::look_for_deadlock(bool was_idle) {
     told_deadlock = all_wait;
 }
 
+void Supervisor::handle_event(const epoll_event &event) {
+    int file = event.data.fd;
+    if (file == world.outside->event_file()) return world.outside->handle_events();
+    if (event.events & EPOLLIN && world.listeners.count(file)) return take_notification(file);
+    if (event.events & EPOLLHUP) world.listeners.erase(file);    // all that had the filter have ended
+}
+
 void Supervisor::wait_for_something() {
-    pollfd files[3] = {{world.listener.get(), POLLIN, 0}, {signals.get(), POLLIN, 0}, {world.outside->event_file(), POLLIN, 0}};
+    epoll_event ready[MOST_READY];
     double until = world.next_deadline();
     int limit = until > 1e17 ? IDLE : std::min(IDLE, std::max(0, (int)((until - now()) * 1000) + 1));
-    int ready = poll(files, 3, limit);
-    if (files[1].revents) take_signals();
-    if (files[0].revents & POLLIN) take_notification();
-    if (files[2].revents) world.outside->handle_events();
+    int count = epoll_wait(world.events.get(), ready, MOST_READY, limit);
+    for (int i = 0; i < count; i++)
+        if (ready[i].data.fd == signals.get()) take_signals();
+    for (int i = 0; i < count; i++) handle_event(ready[i]);
     world.outside->carry_all();
     if (world.next_deadline() <= now()) world.time_out();
-    look_for_deadlock(ready == 0 && limit == IDLE);
-    if (ready == 0) world.layer->flush();
+    look_for_deadlock(count == 0 && limit == IDLE);
+    if (count == 0) world.layer->flush();
 }
 
 int Supervisor::run() {
@@ -132,7 +140,12 @@ int Supervisor::run() {
     sigprocmask(SIG_BLOCK, &watched, nullptr);
     signal(SIGPIPE, SIG_IGN);
     signals.reset(signalfd(-1, &watched, SFD_CLOEXEC | SFD_NONBLOCK));
-    tracer.start(start_program(world.options.command, world.listener));
+    world.await(signals.get());
+    world.await(world.outside->event_file());
+    File listener;
+    bool watches_at_once = geteuid() == 0;     // a program that drops the superuser's rights might refuse the filter later
+    tracer.start(start_program(world.options.command, watches_at_once ? &listener : nullptr), watches_at_once);
+    if (watches_at_once) world.listen_to(std::move(listener));
     rlimit most;
     getrlimit(RLIMIT_NOFILE, &most);
     most.rlim_cur = most.rlim_max;             // placeholders take two numbers a socket

@@ -1,6 +1,7 @@
 // The loop: notifications, signals, time limits, and what is told at the end.
 #pragma once
 #include <signal.h>
+#include <sys/epoll.h>
 #include "outside.h"
 #include "tracer.h"
 
@@ -10,10 +11,11 @@ class Supervisor {
     File signals;
     bool told_deadlock = false;
 
-    void take_notification();
+    void take_notification(int listener);
     bool resume(Call &call);
     void take_signals();
     void look_for_deadlock(bool was_idle);
+    void handle_event(const epoll_event &event);
     void wait_for_something();
 
 public:

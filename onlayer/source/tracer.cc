@@ -1,19 +1,25 @@
 #include "tracer.h"
 #include <errno.h>
 #include <fcntl.h>
+#include <linux/sched.h>
+#include <linux/seccomp.h>
 #include <string.h>
+#include <sys/mman.h>
 #include <sys/ptrace.h>
 #include <sys/syscall.h>
 #include <sys/user.h>
 #include <sys/wait.h>
 #include <unistd.h>
+#include "filter.h"
+#include "inject.h"
 #include "text.h"
 
 static const long RESTART = -512;              // ERESTARTSYS: what an interrupted call stands at until its signal is delivered
 
-void Tracer::start(int pid) {
+void Tracer::start(int pid, bool is_watched) {
     root = pid;
     Process &process = world.new_process(pid);
+    process.is_watched = is_watched;
     process.tasks = {pid};
     world.by_task[pid] = &process;
 }
@@ -22,7 +28,7 @@ void Tracer::start(int pid) {
 
 Process &Tracer::copy_process(Process &parent, int task) {
     Process &child = world.new_process(task);
-    child.hides = parent.hides;
+    child.hides = parent.hides, child.is_watched = parent.is_watched;
     if (parent.table.empty()) return child;
     Reply reply = world.say(parent, "fork");
     if (!reply.ok()) throw Fault("the layer can't fork for " + world.title(parent) + ": " + reply.text);
@@ -79,6 +85,7 @@ void Tracer::executed(int task, int before) {
     world.by_task[task] = process;
     if (process->tasks.size() > 1) split(task), process = world.by_task[task];
     process->pid = task, process->program = program_of(task), process->ids_changed = true, process->hides = false;
+    process->changes++;
     close_on_exec(*process, task);
     if (process->layer) world.layer->note("process " + text(task) + " executes " + process->program);
     note_inherited(*process);
@@ -104,6 +111,53 @@ void Tracer::ended(int task) {
         for (auto &[number, entry] : table) entry->file->holders.erase({process.layer, entry->layer});
     }
     world.settle();
+}
+
+// ---- calls of which the filters tell the tracer
+
+// Whether the call that the task is about to make has to be told. A child that was born while its parent's filter was
+// installed may have none.
+bool Tracer::begins_something(const Process &process, int task) {
+    user_regs_struct registers;
+    u64 flags = 0;
+    ptrace(PTRACE_GETREGS, task, 0, &registers);
+    switch (registers.orig_rax) {
+    case SYS_clone: case SYS_seccomp: case SYS_prctl: return !process.is_watched;
+    case SYS_clone3:
+        return !process.is_watched && read_value(task, registers.rdi, flags) && flags & CLONE_FILES && !(flags & CLONE_THREAD);
+    }
+    return true;
+}
+
+void Tracer::traced(int task, unsigned why) {
+    Process *process = world.by_task[task];
+    if (why == COPIES) return begin_copy(task);
+    if (why == FOREIGN && process) world.stop_foreign(*process);
+    try {
+        if (why == BEGINS && process && begins_something(*process, task)) watch(*process, task);
+    } catch (const Lost &lost) {
+        return handle_status(task, lost.status);
+    }
+    ptrace(PTRACE_CONT, task, 0, 0);
+}
+
+// From now on all calls of the process that may concern the layer are told: the filter is installed in all its threads, and
+// the call that is about to be made is made under it.
+void Tracer::watch(Process &process, int task) {
+    const u64 size = 4096, flags = SECCOMP_FILTER_FLAG_NEW_LISTENER | SECCOMP_FILTER_FLAG_TSYNC | SECCOMP_FILTER_FLAG_TSYNC_ESRCH;
+    std::vector<sock_filter> code = watching_filter();
+    Injection injection(task);
+    u64 page = injection.call(SYS_mmap, {0, size, PROT_READ | PROT_WRITE, MAP_PRIVATE | MAP_ANONYMOUS, ~0ull, 0});
+    sock_fprog program = {(unsigned short)code.size(), (sock_filter *)(page + sizeof program)};
+    bool is_there = write_value(task, page, program) && write_memory(task, page + sizeof program, code.data(), code.size() * sizeof code[0]);
+    long number = is_there ? injection.call(SYS_seccomp, {SECCOMP_SET_MODE_FILTER, flags, page, 0, 0, 0}) : -EFAULT;
+    File listener = number < 0 ? File() : take_file(process.pid, (int)number);
+    if (number >= 0) injection.call(SYS_close, {(u64)number, UNTOLD, 0, 0, 0, 0});
+    injection.call(SYS_munmap, {page, size, 0, 0, 0, 0});
+    if (number == -EBUSY) return;              // it came by another thread's first call
+    if (!listener) throw Fault("the filter can't be installed in " + world.title(process) + ": " + strerror(number < 0 ? (int)-number : errno));
+    world.listen_to(std::move(listener));
+    process.is_watched = true;
 }
 
 // ---- a copy by F_DUPFD, whose number the kernel chooses
@@ -176,13 +230,22 @@ bool Tracer::answer_at_signal(int task) {
     user_regs_struct registers;
     ptrace(PTRACE_GETREGS, task, 0, &registers);
     if ((long)registers.rax != RESTART || (int)registers.orig_rax != found->second.data.nr) return false;
-    if (!found->second.result) return true;
+    if (!found->second.result || found->second.result->way == Result::PASS) return true;
     const Result &result = *found->second.result;
     registers.rax = result.error ? -result.error : result.value;
     registers.orig_rax = -1;
     ptrace(PTRACE_SETREGS, task, 0, &registers);
     world.undelivered.erase(found);
     return false;
+}
+
+// Whether a handler is about to run in place of a call that no signal cuts off on Linux, and that nobody has answered yet.
+static bool cuts_off(int task, int signal) {
+    static const std::set<int> whole = {SYS_close, SYS_close_range, SYS_dup, SYS_dup2, SYS_dup3, SYS_socket, SYS_socketpair, SYS_bind, SYS_listen,
+                                        SYS_shutdown, SYS_getsockname, SYS_getpeername, SYS_getsockopt, SYS_setsockopt};
+    user_regs_struct registers;
+    ptrace(PTRACE_GETREGS, task, 0, &registers);
+    return (long)registers.rax == RESTART && whole.count((int)registers.orig_rax) && is_caught(task, signal);
 }
 
 void Tracer::deliver_signal(int task, int signal) {
@@ -195,7 +258,7 @@ void Tracer::deliver_signal(int task, int signal) {
         ptrace(PTRACE_SETSIGINFO, task, 0, &info);
     }
     interrupt(task, signal);
-    if (!answer_at_signal(task)) {
+    if (!answer_at_signal(task) && !cuts_off(task, signal)) {
         ptrace(PTRACE_CONT, task, 0, signal);
         return;
     }
@@ -226,7 +289,7 @@ bool Tracer::handle_event(int task, int event) {
     case PTRACE_EVENT_EXEC: executed(task, (int)message); return true;
     case PTRACE_EVENT_EXIT: ended(task); return true;
     case PTRACE_EVENT_STOP: return true;
-    case PTRACE_EVENT_SECCOMP: begin_copy(task); return false;
+    case PTRACE_EVENT_SECCOMP: traced(task, (unsigned)message); return false;
     }
     return true;
 }
@@ -244,20 +307,23 @@ void Tracer::handle_stop(int task, int status) {
     else if (handle_event(task, event)) ptrace(PTRACE_CONT, task, 0, 0);
 }
 
+void Tracer::handle_status(int task, int status) {
+    if (WIFSTOPPED(status)) return handle_stop(task, status);
+    if (task == root) root_status = status;
+    ended(task);
+}
+
 void Tracer::reap() {
     for (;;) {
         int status, task = waitpid(-1, &status, __WALL | WNOHANG);
         if (task <= 0) return;
-        if (WIFSTOPPED(status)) {
-            handle_stop(task, status);
-            continue;
-        }
-        if (task == root) root_status = status;
-        ended(task);
+        handle_status(task, status);
     }
 }
 
+// Its end isn't told before that of its other threads was taken.
 int Tracer::wait_for_root() {
-    if (root_status < 0) waitpid(root, &root_status, __WALL);
+    for (int status, task = 1; root_status < 0 && task > 0;)
+        if ((task = waitpid(-1, &status, __WALL)) > 0) handle_status(task, status);
     return root_status;
 }

@@ -14,6 +14,7 @@ class Tracer {
     std::map<int, std::vector<siginfo_t>> put_off, sent_again;
     int root_status = -1;
 
+    void handle_status(int task, int status);
     void handle_stop(int task, int status);
     bool handle_event(int task, int event);
     void born(int parent, int task);
@@ -22,6 +23,9 @@ class Tracer {
     void close_on_exec(Process &process, int task);
     void note_inherited(Process &process);
     void ended(int task);
+    void traced(int task, unsigned why);
+    bool begins_something(const Process &process, int task);
+    void watch(Process &process, int task);
     void begin_copy(int task);
     void end_copy(int task);
     void interrupt(int task, int signal);
@@ -31,7 +35,7 @@ class Tracer {
 public:
     int root = 0;
     explicit Tracer(World &world) : world(world) {}
-    void start(int pid);
+    void start(int pid, bool is_watched);
     void reap();
     void split(int task);                      // the task has a table of its own from now on
     void send_put_off(int task);               // signals that waited for a call's answer

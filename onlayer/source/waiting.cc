@@ -70,7 +70,7 @@ void World::settle() {
 }
 
 void World::attempt(Call call) {
-    if (ioctl(listener.get(), SECCOMP_IOCTL_NOTIF_ID_VALID, &call.id)) return let_go(std::move(call.number));
+    if (ioctl(call.listener, SECCOMP_IOCTL_NOTIF_ID_VALID, &call.id)) return let_go(std::move(call.number));
     call.on = nullptr;
     Result result = handle(call);
     if (result.way == Result::WAIT) waiting.push_back(std::move(call));
@@ -119,7 +119,7 @@ void World::answer(Call &call, Result result) {
     if (result.way == Result::PASS) response.flags = SECCOMP_USER_NOTIF_FLAG_CONTINUE;
     else if (result.error) response.error = -result.error;
     else response.val = result.value;
-    if (ioctl(listener.get(), SECCOMP_IOCTL_NOTIF_SEND, &response) && errno == ENOENT && result.way == Result::DONE) {
+    if (ioctl(call.listener, SECCOMP_IOCTL_NOTIF_SEND, &response) && errno == ENOENT) {
         counts.put_off++;
         undelivered[call.task] = {call.data, {}, result};
     }

@@ -1,13 +1,16 @@
 #include "world.h"
 #include "outside.h"
 #include <fcntl.h>
+#include <signal.h>
 #include <stdio.h>
 #include <string.h>
+#include <sys/epoll.h>
 #include <sys/ioctl.h>
 #include <sys/stat.h>
 #include <sys/syscall.h>
 #include <unistd.h>
 #include <algorithm>
+#include "filter.h"
 #include "text.h"
 
 static const int FIRST = 1, GUEST_MAKER = 2;   // processes of the layer that others are forked from
@@ -22,7 +25,8 @@ static int read_setting(const char *path, int otherwise) {
     return value;
 }
 
-World::World(std::unique_ptr<Layer> the_layer, const Options &the_options) : layer(std::move(the_layer)), options(the_options) {
+World::World(std::unique_ptr<Layer> the_layer, const Options &the_options)
+    : layer(std::move(the_layer)), options(the_options), events(epoll_create1(EPOLL_CLOEXEC)) {
     own_user = geteuid(), own_group = getegid();
     if (options.order) order.seed(*options.order);
     send_maximum = read_setting("/proc/sys/net/core/wmem_max", send_maximum);
@@ -50,6 +54,31 @@ Process &World::new_process(int pid) {
     process.pid = pid;
     process.program = program_of(pid);
     return process;
+}
+
+Process *World::process_of(int pid) {
+    auto found = by_task.find(pid);
+    return found == by_task.end() ? nullptr : found->second;
+}
+
+void World::stop_foreign(Process &process) {
+    counts.refused++;
+    complain("refused: " + title(process) + " makes calls of another architecture than x86-64; it is killed");
+    kill(process.pid, SIGSYS);
+    kill(process.pid, SIGKILL);
+}
+
+void World::await(int file) {
+    epoll_event event = {};
+    event.events = EPOLLIN, event.data.fd = file;
+    epoll_ctl(events.get(), EPOLL_CTL_ADD, file, &event);
+}
+void World::listen_to(File listener) {
+    int number = listener.get();
+    fcntl(number, F_SETFD, FD_CLOEXEC);
+    wake_at_once(number);
+    listeners[number] = std::move(listener);
+    await(number);
 }
 
 void World::name_in_layer(Process &process, int number) {
@@ -102,17 +131,9 @@ std::optional<Watched> World::watched(Description *file) const {
     return Watched{file, holder.process, holder.number};
 }
 
-Reply World::say_as(int layer_process, const std::string &words, std::vector<Description *> may_change) {
-    std::vector<Watched> files;
-    std::sort(may_change.begin(), may_change.end());
-    may_change.erase(std::unique(may_change.begin(), may_change.end()), may_change.end());
-    for (Description *file : may_change)
-        if (auto one = watched(file)) files.push_back(*one);
-    return layer->make(layer_process, words, files);
-}
-Reply World::say(Process &process, const std::string &words, std::vector<Description *> may_change) {
+Reply World::say(Process &process, const std::string &words) {
     sync_ids(process);
-    return say_as(process.layer, words, std::move(may_change));
+    return layer->make(process.layer, words);
 }
 
 // ---- open files
@@ -129,7 +150,47 @@ void World::touch(Description *file) {
 
 void World::know(Description *file, unsigned conditions) {
     placeholders.show(*file, conditions);
-    touched.emplace(file, true);               // a look that is asked for stays so
+    bool is_first = touched.emplace(file, true).second;    // a look that is asked for stays so
+    auto one = options.looks && (is_first || touched[file]) ? watched(file) : std::nullopt;
+    if (!one) return;
+    layer->look({*one});
+    if (file->conditions != conditions)
+        throw Fault("socket " + text(file->id) + " should have the conditions " + text(conditions) + ", and the layer tells " + text(file->conditions));
+}
+
+static void touch_senders(World &world, Description *sender, const Description &target) {
+    world.touch(sender);
+    for (Description *follower : target.followers) world.touch(follower);
+}
+
+// A send has reached the target: its input is known without a look, and so is whether the sender has room for more.
+void World::arrived(Description *sender, Description &target, long n) {
+    bool had_input = target.shown_conditions & IN;
+    target.unread += target.is_stream() ? n : 1;
+    bool is_full = !target.has_room();
+    if (is_full && !target.is_connection()) touch_senders(*this, sender, target);    // the target itself may be one of them
+    know(&target, target.conditions | IN);
+    if (had_input) placeholders.arrive(target);
+    if (is_full && target.is_connection() && sender) know(sender, sender->conditions & ~OUT);
+}
+
+// What a receive has left: where nothing is shut, gone or reset, input is what the queue has.
+void World::received(Description &own, const Reply &reply, bool peeks) {
+    if (reply.error == EAGAIN || (reply.ok() && peeks)) return;
+    bool is_message = reply.word(3).find("EOR") != std::string::npos || (own.kind == DATAGRAM && reply.word(5) != "-");
+    bool took = reply.ok() && (own.is_stream() ? reply.number(1) > 0 : is_message), had_room = own.has_room();
+    if (took) own.unread -= own.is_stream() ? reply.number(1) : 1;
+    if (!took || own.conditions & (RDHUP | HUP | ERR)) touch(&own);
+    else if (!own.unread) know(&own, own.conditions & ~IN);
+    if (!took || had_room) return;
+    if (own.is_connection() && own.peer) return know(own.peer, own.peer->conditions | OUT);
+    touch_senders(*this, nullptr, own);        // it may be its own
+    know(&own, own.conditions);                // who waits for room here goes on
+}
+
+bool World::is_empty(const Description &own) const {
+    bool is_known = !touched.count(const_cast<Description *>(&own)), is_tied = own.is_connection() && own.connected && own.peer;
+    return is_known && is_tied && !own.unread && !(own.conditions & (IN | RDHUP | HUP | ERR));
 }
 
 void World::forget(Description *file) {
@@ -180,7 +241,11 @@ NumberRef World::find(Call &call, int number) {
     auto found = call.process->table.find(number);
     if (found == call.process->table.end()) return nullptr;
     NumberRef entry = found->second;
-    if (entry->file->shown && same_file(call.task, number, entry->file->shown.get())) return entry;
+    if (entry->checked == call.process->changes) return entry;
+    if (entry->file->shown && same_file(call.task, number, entry->file->shown.get())) {
+        entry->checked = call.process->changes;
+        return entry;
+    }
     if (errno == EPERM) {                      // as between an unshare of user namespaces and an exec
         complain(title(*call.process) + " doesn't let itself be looked at: its table of numbers isn't checked");
         return entry;
@@ -211,7 +276,9 @@ bool World::is_being_closed(Call &call, int number) {
 void World::limit_queue(Process &process, Description &file, int number) {
     if (!options.queue_limit || !file.is_stream() || file.has_limit) return;
     file.has_limit = true;
+    file.queue_room = options.queue_limit;
     say(process, "setopt " + text(number) + " qlimit " + text(options.queue_limit));
+    touch(file.peer);
 }
 
 int World::give(Call &call, const Gift &gift) {
@@ -220,7 +287,7 @@ int World::give(Call &call, const Gift &gift) {
     add.srcfd = gift.file->shown.get();
     add.newfd_flags = gift.closes_on_exec ? O_CLOEXEC : 0;
     if (gift.at >= 0) add.flags = SECCOMP_ADDFD_FLAG_SETFD, add.newfd = gift.at;
-    int number = ioctl(listener.get(), SECCOMP_IOCTL_NOTIF_ADDFD, &add);
+    int number = ioctl(call.listener, SECCOMP_IOCTL_NOTIF_ADDFD, &add);
     if (number >= 0) {
         enter(*call.process, number, gift.file, gift.layer);
         limit_queue(*call.process, *gift.file, gift.layer);

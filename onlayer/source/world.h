@@ -53,7 +53,8 @@ public:
     Placeholders placeholders;
     Names names;
     Counts counts;
-    File listener;                             // of the filter's notifications
+    File events;                               // epoll of all that the supervisor waits for
+    std::map<int, File> listeners;             // of the filters' notifications
     std::set<Description *> descriptions;
     std::map<int, Ref> objects;                // held files, by their number in the layer
     std::map<int, Process *> by_task;
@@ -74,21 +75,23 @@ public:
 
     // processes
     Process &new_process(int pid);
+    Process *process_of(int pid);
     void name_in_layer(Process &process, int number);
     int real_pid(long layer_number) const;
     int guest(uid_t user, gid_t group);        // a process of the layer that stands for one outside
     std::string title(const Process &process) const { return process.program + " (pid " + text(process.pid) + ")"; }
 
     // calls of the layer
-    Reply say(Process &process, const std::string &words, std::vector<Description *> may_change = {});
-    Reply say_as(int layer_process, const std::string &words, std::vector<Description *> may_change = {});
+    Reply say(Process &process, const std::string &words);
     std::optional<Watched> watched(Description *file) const;
 
     // open files and numbers
     Ref make(Kind kind);
     void touch(Description *file);
     void know(Description *file, unsigned conditions);     // without a look
-    void untouch(Description *file) { touched.erase(file); }
+    void arrived(Description *sender, Description &target, long n);
+    void received(Description &own, const Reply &reply, bool peeks);
+    bool is_empty(const Description &own) const;           // a receive would wait
     void enter(Process &process, int number, const Ref &file, int layer_number);
     void drop(Process &process, int number, bool closes_in_layer = true);
     void let_go(NumberRef number, bool closes_in_layer = true);
@@ -104,6 +107,9 @@ public:
     Result deliver(Call &call, Delivery delivery);
     void answer(Call &call, Result result);
     Result refuse(Call &call, int error, const std::string &why);
+    void stop_foreign(Process &process);       // its calls have other numbers, and can't be answered
+    void listen_to(File listener);
+    void await(int file);                      // the supervisor wakes where it can be read
     void complain(const std::string &line);
 
     // waiting

@@ -115,8 +115,29 @@ static void partial() {
     printf("an ignored one: %zd %s\n", n, n < 0 ? strerror(errno) : "");
 }
 
+// A close, a copy and a name's look-up end as if nothing had come.
+static void whole_calls() {
+    int ends[2], failed = 0;
+    sockaddr name;
+    socketpair(AF_UNIX, SOCK_STREAM, 0, ends);
+    handle(SIGALRM, 0);
+    every(300);
+    for (int i = 0; i < 500; i++) {
+        socklen_t length = sizeof name;
+        int copy = dup(ends[0]), other = dup(0);
+        failed += copy < 0 || other < 0 || getsockname(ends[1], &name, &length) < 0;
+        failed += close(copy) < 0;
+        failed += close(other) < 0;
+    }
+    every(0);
+    signal(SIGALRM, SIG_IGN);
+    printf("calls that no signal cuts off: %d failed\n", failed);
+    close(ends[0]), close(ends[1]);
+}
+
 int main() {
     setvbuf(stdout, nullptr, _IOLBF, 0);
+    whole_calls();
     blocked(0, "no restart");
     blocked(SA_RESTART, "restart");
     partial();

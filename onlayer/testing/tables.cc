@@ -1,6 +1,7 @@
-// Tables of numbers that tasks share: CLONE_FILES without CLONE_THREAD, unshare, CLOSE_RANGE_UNSHARE, vfork.
+// Threads whose first sockets come at once, and tables of numbers that tasks share: CLONE_FILES without CLONE_THREAD, unshare, CLOSE_RANGE_UNSHARE, vfork.
 #include <errno.h>
 #include <linux/close_range.h>
+#include <pthread.h>
 #include <sched.h>
 #include <signal.h>
 #include <stdio.h>
@@ -13,6 +14,27 @@
 static int ends[2], made = -1;
 static char stack[65536] __attribute__((aligned(16)));
 
+static pthread_barrier_t begun;
+static void *make_first(void *) {
+    int pair[2];
+    char byte = 0;
+    pthread_barrier_wait(&begun);
+    bool passes = !socketpair(AF_UNIX, SOCK_STREAM, 0, pair) && write(pair[0], "y", 1) == 1 && read(pair[1], &byte, 1) == 1 && byte == 'y';
+    return (void *)(long)passes;
+}
+static void first_sockets() {
+    pthread_t threads[8];
+    long passed = 0;
+    pthread_barrier_init(&begun, nullptr, 8);
+    for (pthread_t &thread : threads) pthread_create(&thread, nullptr, make_first, nullptr);
+    for (pthread_t &thread : threads) {
+        void *passes;
+        pthread_join(thread, &passes);
+        passed += (long)passes;
+    }
+    printf("first sockets at once: %ld\n", passed);
+}
+
 static int in_shared(void *) {
     int more[2];
     socketpair(AF_UNIX, SOCK_STREAM, 0, more);
@@ -22,7 +44,7 @@ static int in_shared(void *) {
     return 0;
 }
 static int in_own(void *) {
-    unshare(CLONE_FILES);
+    unshare(CLONE_FILES | CLONE_FS);
     close(ends[0]);
     return write(ends[1], "still open", 10) == 10 ? 0 : 1;
 }
@@ -38,6 +60,7 @@ static void run(int (*function)(void *), const char *what) {
 int main() {
     char bytes[50] = {};
     setvbuf(stdout, nullptr, _IOLBF, 0);
+    first_sockets();
     socketpair(AF_UNIX, SOCK_STREAM, 0, ends);
     run(in_shared, "shared");
     ssize_t n = read(made, bytes, sizeof bytes);
