@@ -31,7 +31,7 @@ fn values_are_so_large(rt: HostRuntime) {
     assert_eq!(rt; size_of::<Name>(), 16);
     assert_eq!(rt; size_of::<Request>(), 80);
     assert_eq!(rt; size_of::<Reply>(), 80);
-    assert_eq!(rt; size_of::<Entry>(), 216);
+    assert_eq!(rt; size_of::<Entry>(), 232);
 }
 
 /// Sees that these are the bytes.
