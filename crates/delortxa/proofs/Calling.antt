@@ -1,7 +1,7 @@
 -- What the clauses of a reply say of a call.
 use Rattle.std.proofs.Common.{◌≡◌, ◌⊎◌, ◌||◌, Bool, true, false, refl, ap, sym, subst, ◌∙◌}
 use Rattle.ux_model.specs.Types.{Fd, SockOpt, Request, Reply}
-use Rattle.ux_laws.specs.ReplyKinds.{is_value, is_refusal, option_kind, kind_of, is_reply_to}
+use Rattle.ux_model.specs.ReplyKinds.{is_value, is_refusal, option_kind, kind_of, is_reply_to}
 use Rattle.ux_book.specs.declared.fault.CallFault.{CallFault}
 use Rattle.delortxa.specs.declared.fault.CallError.{CallError}
 use Rattle.delortxa.specs.Answering.{IsOther, Explains, Fails, FailsAsNumber}

@@ -5,7 +5,7 @@ use Rattle.ux_model.specs.Types.{Request, Reply}
 use Rattle.ux_model.specs.State.{State}
 use Rattle.ux_book.specs.Pasts.{Caller, child_by, made, IsOf}
 use Rattle.ux_book.specs.Receipts.{Slip, IsSlip, IsSlipOf}
-use Rattle.ux_laws.specs.ReplyKinds.{is_child}
+use Rattle.ux_model.specs.ReplyKinds.{is_child}
 use Rattle.delortxa.specs.Answering.{IsOther, other_error}
 use Rattle.delortxa.specs.Happening.{Happens}
 

@@ -1,7 +1,7 @@
 -- What is reported of a call.
 use Rattle.std.specs.Prelude.{◌≡◌, ◌⊎◌, Bool, false}
 use Rattle.ux_model.specs.Types.{Fd, Cred, SockOpt, Request, Reply}
-use Rattle.ux_laws.specs.ReplyKinds.{is_refusal}
+use Rattle.ux_model.specs.ReplyKinds.{is_refusal}
 use Rattle.ux_book.specs.declared.fault.CallFault.{CallFault}
 use Rattle.delortxa.specs.declared.fault.CallError.{CallError}
 

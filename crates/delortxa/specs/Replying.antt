@@ -6,8 +6,8 @@ use Rattle.ux_model.specs.State.{State}
 use Rattle.ux_book.specs.Books.{KeptHistory}
 use Rattle.ux_book.specs.Pasts.{Caller}
 use Rattle.ux_book.specs.Sitting.{Answers}
-use Rattle.ux_laws.specs.ReplyKinds.{is_reply_to}
-use Rattle.ux_laws.proofs.ReplyKinds.{replies_are_of_their_kind}
+use Rattle.ux_model.specs.ReplyKinds.{is_reply_to}
+use Rattle.ux_model.proofs.Sizes.ReplyKinds.{replies_are_of_their_kind}
 use Rattle.delortxa.specs.Happening.{Happens}
 
 -- of a session

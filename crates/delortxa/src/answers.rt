@@ -2,7 +2,7 @@
 ghost use Rattle.std.specs.Prelude.{◌≡◌, ◌↔◌, Some, None, Err, IfOk, IfErr, OnOk};
 ghost use Rattle.ux_model.specs.ControlReading.{control_in};
 ghost use Rattle.ux_model.specs.Types.{Reply};
-ghost use Rattle.ux_laws.specs.ReplyKinds.{is_done, is_fd, is_fds, is_count, is_bytes, is_offset, is_message, is_accepted, is_addr, is_value, is_cred, is_ready, is_child, is_flags};
+ghost use Rattle.ux_model.specs.ReplyKinds.{is_done, is_fd, is_fds, is_count, is_bytes, is_offset, is_message, is_accepted, is_addr, is_value, is_cred, is_ready, is_child, is_flags};
 ghost use Rattle.delortxa.specs.Answering.{IsOther, other_error};
 
 use crate::fault::CallError;

@@ -6,7 +6,7 @@ ghost use Rattle.ux_model.specs.Delivery.{control_bytes};
 ghost use Rattle.ux_book.specs.declared.fault.CallFault.{CallFault};
 ghost use Rattle.ux_book.specs.Books.{has_own_call};
 ghost use Rattle.ux_calls.specs.Calls.{no_open_flags, no_msg_flags, rights_space};
-ghost use Rattle.ux_laws.specs.ReplyKinds.{is_reply_to};
+ghost use Rattle.ux_model.specs.ReplyKinds.{is_reply_to};
 ghost use Rattle.delortxa.specs.Answering.{Fails, FailsAsNumber};
 ghost use Rattle.delortxa.specs.declared.whole.Way.{Way};
 ghost use Rattle.delortxa.specs.Giving.{Takes, EndsEarly, AfterFirst, EndsEarlyAfter, request_of};

@@ -43,6 +43,8 @@ pub struct Args<'a> {
     pub progress: bool,
     /// A path, or `-` for standard input.
     pub script: &'a str,
+    /// The scripts, where there are several: of each it is told whether its answers are those that it expects.
+    pub several: Option<Vec<&'a str>>,
 }
 
 impl Args<'_> {
@@ -56,7 +58,8 @@ impl Args<'_> {
             || self.expect
             || self.json
             || self.dot.is_some()
-            || self.sequence;
+            || self.sequence
+            || self.several.is_some();
         self.script == "-" && !whole
     }
 }
@@ -73,8 +76,9 @@ fn switch<'a>(alloc: Global, name: &'static str, help: &'static str) -> Arg<'a> 
 fn command_of<'a>(alloc: Global) -> Result<Command<'a>, AllocError> {
     let script = Arg::new(alloc, "SCRIPT")
         .required(true)
+        .num_args(1..)
         .action(ArgAction::Set)
-        .help("The script's path, or - for standard input");
+        .help("The script's path, or - for standard input; with --expect several");
     let command = Command::new(alloc, "uxrun")
         .about("Runs a script of socket calls and prints its trace")
         .version(VERSION)
@@ -90,7 +94,13 @@ fn command_of<'a>(alloc: Global) -> Result<Command<'a>, AllocError> {
 /// Reads the words of a command line, of which the first is the program's name.
 pub fn read_args<'a>(alloc: Global, words: &'a [String]) -> Result<Args<'a>, Error> {
     let mut command = command_of(alloc)?;
-    let matches = command.try_get_matches_from_mut(words)?;
+    let matches = match command.try_get_matches_from_mut(words) {
+        Ok(matches) => matches,
+        Err(error) if misses_its_script(&error, words) => {
+            return Err(command.error(ErrorKind::MissingRequiredArgument, NO_SCRIPT)?);
+        }
+        Err(error) => return Err(error),
+    };
     let (Some(audit), Some(holders), Some(dot)) = (
         point_of(&matches, "audit"),
         point_of(&matches, "holders"),
@@ -104,6 +114,10 @@ pub fn read_args<'a>(alloc: Global, words: &'a [String]) -> Result<Args<'a>, Err
     let Some(orders) = orders_of(&matches) else {
         return Err(command.error(ErrorKind::ValueValidation, NO_LIMIT)?);
     };
+    let several = several_of(alloc, &matches)?;
+    if several.is_some() && !allows_several(&matches) {
+        return Err(command.error(ErrorKind::ArgumentConflict, NOT_SEVERAL)?);
+    }
     Ok(Args {
         threads: matches.get_flag("threads"),
         check: matches.get_flag("check"),
@@ -119,7 +133,54 @@ pub fn read_args<'a>(alloc: Global, words: &'a [String]) -> Result<Args<'a>, Err
         follow: matches.get_flag("follow"),
         progress: false,
         script: matches.get_str("SCRIPT").unwrap_or("-"),
+        several,
     })
+}
+
+/// Why several scripts aren't taken.
+const NOT_SEVERAL: &str = "several scripts go with --expect, and besides it with --threads alone";
+
+/// The scripts, where there are several.
+fn several_of<'a>(
+    alloc: Global,
+    matches: &ArgMatches<'a>,
+) -> Result<Option<Vec<&'a str>>, AllocError> {
+    match matches.get_strs("SCRIPT") {
+        Some(names) if names.len() > 1 => Ok(Some(Vec::from_slice(alloc, names)?)),
+        _ => Ok(None),
+    }
+}
+
+/// Whether the options are those that go with several scripts.
+fn allows_several(matches: &ArgMatches<'_>) -> bool {
+    let prints = matches.get_flag("echo")
+        || matches.get_flag("json")
+        || matches.get_flag("sequence");
+    let views = matches.get_str("audit").is_some()
+        || matches.get_str("holders").is_some()
+        || matches.get_str("dot").is_some();
+    let runs = matches.get_flag("check")
+        || matches.get_flag("orders")
+        || matches.get_flag("follow");
+    matches.get_flag("expect") && !prints && !views && !runs
+}
+
+/// The options with a value.
+const VALUED: &[&str] = &["--audit", "--holders", "--dot", "--order", "--limit"];
+
+/// Why no script is named, where the last word is the value of an option.
+const NO_SCRIPT: &str = "SCRIPT is missing: the last word is the value of the option before it";
+
+/// Whether an error is that no script is named, since an option took the last word as its value.
+fn misses_its_script(error: &Error, words: &[String]) -> bool {
+    let before = words
+        .len()
+        .checked_sub(2)
+        .and_then(|place| words.get(place));
+    let Some(option) = before else {
+        return false;
+    };
+    error.kind() == ErrorKind::MissingRequiredArgument && VALUED.contains(&option.as_str())
 }
 
 const THREADS: &str =

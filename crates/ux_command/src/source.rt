@@ -76,7 +76,11 @@ impl Source {
 
     /// Why the script wasn't read.
     fn reading_reason(&self, alloc: Global, name: &str) -> Result<String, AllocError> {
-        let name = if name == "-" { "standard input" } else { name };
+        let name = match name {
+            "-" => "standard input",
+            "" => "an empty SCRIPT",
+            _ => name,
+        };
         match self.failure {
             Some(error) => format!(in alloc; "{name}: {error}"),
             None => format!(in alloc; "no random keys for the hash of names"),

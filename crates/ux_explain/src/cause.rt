@@ -1,7 +1,9 @@
 //! What is wrong with a line.
 
+use crate::elsewhere::Elsewhere;
 use crate::forms::Form;
 use std::fmt;
+use ux_syntax::SERIAL_LINE_LIMIT;
 
 /// What is wrong with a line, at its column. The words are those of the manual page.
 #[derive(Clone, Copy, Debug)]
@@ -9,6 +11,10 @@ pub enum Cause {
     /// It has more bytes than this.
     TooLong(usize),
     ByteOrderMark,
+    /// A byte order mark of UTF-16.
+    Utf16,
+    /// A byte 0.
+    Binary,
     Tab,
     CarriageReturn,
     FirstBlank,
@@ -18,14 +24,22 @@ pub enum Cause {
     Missing(Form),
     /// A word too many.
     Further,
+    /// The same behind a name.
+    FurtherBehindName,
+    /// The same, which begins as a comment does.
+    LateComment,
     /// The word isn't of this form.
     Expected(Form),
     /// The word isn't of this form, which has words, of which this one is the nearest.
     Nearest(Form, &'static str),
     /// The word is none of those that begin a line, of which this one is the nearest.
     NoHead(Option<&'static str>),
+    /// The word begins a comment in other languages.
+    OtherComment,
     /// The word is no call, of which this one is the nearest.
     NoCall(Option<&'static str>),
+    /// The word is no call, but one of a manual page.
+    Elsewhere(Elsewhere),
     UpperCase,
     OddDigit,
     LeadingZero,
@@ -38,6 +52,10 @@ pub enum Cause {
     Needless(u8),
     /// A `%` without two digits.
     NoDigits,
+    /// The space of rights where control data is to be.
+    SpaceOfRights,
+    /// A quotation mark that isn't ASCII's.
+    TypographicMark,
     /// A text without its closing quotation mark.
     Unclosed,
     /// What stands behind a backslash is no escape.
@@ -71,24 +89,41 @@ const ONE_BLANK: &str = "words stand exactly one blank apart";
 impl fmt::Display for Cause {
     fn fmt<W: fmt::Write>(&self, f: &mut fmt::Formatter<W>) -> fmt::Result {
         match *self {
-            Cause::TooLong(limit) => write!(f, "a line too long: expected at most {limit} bytes"),
-            Cause::ByteOrderMark => write!(
+            Cause::TooLong(limit) if limit < SERIAL_LINE_LIMIT => write!(
                 f,
-                "a byte order mark: a script begins with its first line"
+                "a line too long: expected at most {limit} bytes, or {SERIAL_LINE_LIMIT} behind a line serial"
             ),
+            Cause::TooLong(limit) => write!(f, "a line too long: expected at most {limit} bytes"),
             Cause::Tab => write!(f, "a tab: {ONE_BLANK}"),
             Cause::CarriageReturn => write!(f, "a carriage return: lines end at line feeds"),
             Cause::FirstBlank => write!(f, "a leading blank: {ONE_BLANK}"),
             Cause::LastBlank => write!(f, "a trailing blank: {ONE_BLANK}"),
             Cause::TwoBlanks => write!(f, "two blanks: {ONE_BLANK}"),
             Cause::Missing(form) => write!(f, "a missing field: expected {form}"),
-            Cause::Further => write!(f, "a further field: expected the end of the line"),
             Cause::Expected(form) => write!(f, "expected {form}"),
             Cause::Nearest(form, word) => write!(f, "expected {form}; did you mean '{word}'?"),
             Cause::NoHead(_) => write!(f, "expected {}", Form::Head),
             Cause::NoCall(_) => write!(f, "expected {}", Form::Call),
-            _ => write_further(f, *self),
+            Cause::Elsewhere(found) => write!(f, "{found}"),
+            _ => write_of_ends(f, *self),
         }
+    }
+}
+
+/// The texts of files that aren't scripts, of comments, and of words too many.
+fn write_of_ends<W: fmt::Write>(f: &mut fmt::Formatter<W>, cause: Cause) -> fmt::Result {
+    match cause {
+        Cause::ByteOrderMark => write!(f, "a byte order mark: a script begins with its first line"),
+        Cause::Utf16 => write!(f, "UTF-16: a script has a byte for each character"),
+        Cause::Binary => write!(f, "a byte 0: a script is text"),
+        Cause::Further => write!(f, "a further field: expected the end of the line"),
+        Cause::FurtherBehindName => write!(
+            f,
+            "a further field: expected the end of the line; a blank in NAME is %20"
+        ),
+        Cause::LateComment => write!(f, "a comment, which has a line of its own"),
+        Cause::OtherComment => write!(f, "a comment begins with #"),
+        _ => write_further(f, cause),
     }
 }
 
@@ -105,6 +140,8 @@ fn write_further<W: fmt::Write>(f: &mut fmt::Formatter<W>, cause: Cause) -> fmt:
             let letter = char::from(byte);
             write!(f, "a byte of NAME that mustn't have %: expected {letter}")
         }
+        Cause::SpaceOfRights => write!(f, "rights:N is a SPACE: expected r:N,N,.. in CONTROL"),
+        Cause::TypographicMark => write!(f, "a typographic quotation mark: expected \""),
         Cause::Unclosed => write!(f, "a text without its end: expected \""),
         Cause::Escape => write!(
             f,
@@ -126,6 +163,11 @@ fn write_of_context<W: fmt::Write>(f: &mut fmt::Formatter<W>, cause: Cause) -> f
         ),
         Cause::LateSerial => write!(f, "serial, which comes before all other lines"),
         Cause::AfterExit(pid) => write!(f, "a line of process {pid} after its exit"),
+        Cause::NoProcess(0, _) => write!(f, "no process 0: processes count from 1"),
+        Cause::NoProcess(pid, 0) => write!(
+            f,
+            "no process {pid}: a line before makes it, proc UID GID PRIV LIMIT"
+        ),
         Cause::NoProcess(pid, count) => {
             write!(f, "no process {pid}: the lines before have {count}")
         }

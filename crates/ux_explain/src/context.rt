@@ -3,6 +3,7 @@
 use crate::cause::Cause;
 use crate::lines::Mistake;
 use crate::texts::word_from;
+use ux_fields::SCRIPT_WORDS;
 use ux_syntax::{LineReader, Script};
 use ux_types::{MADE_LIMIT, Pid};
 
@@ -37,14 +38,9 @@ fn cause_of_fork(script: &Script, pid: u32) -> Cause {
     }
 }
 
-/// The calls that stand in a script with the line `serial` alone.
-const BEHIND_SERIAL: &[&str] = &[
-    "create", "memfd", "eventfd", "pipe", "dupfd", "getfl", "setids",
-];
-
 /// Whether a call stands in a script with the line `serial` alone.
 fn stands_behind_serial(call: &[u8]) -> bool {
-    BEHIND_SERIAL.iter().any(|word| word.as_bytes() == call)
+    SCRIPT_WORDS.iter().any(|word| word.wants_serial() && word.text().as_bytes() == call)
 }
 
 /// Why the line of a process isn't allowed behind these of a script.

@@ -102,6 +102,7 @@ pub(crate) fn control_miss(word: &[u8]) -> Option<Miss> {
             let miss = raw_miss(rest)?;
             Some(miss.after(1))
         }
+        _ if word.starts_with(b"rights:") => Some(Miss::new(1, Cause::SpaceOfRights)),
         _ => items_miss(word),
     }
 }

@@ -59,6 +59,10 @@ impl fmt::Display for Explanation {
         let word = word_around(excerpt.text.as_slice(), excerpt.column);
         match cause {
             Cause::NoCall(nearest) => write_word(f, "no call", word, nearest),
+            Cause::Elsewhere(found) => {
+                write_word(f, "no call", word, None)?;
+                write!(f, ": {found}")
+            }
             Cause::NoHead(nearest) => {
                 write_word(f, "no line begins with", word, nearest)?;
                 write_heads(f, nearest)

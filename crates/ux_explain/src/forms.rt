@@ -1,6 +1,7 @@
 //! The forms of words, and which words the lines of a script have.
 
 use std::fmt;
+use ux_fields::{FieldForm, FieldKind, SCRIPT_WORDS, form_of};
 
 /// What a word of a line is to be. The names are those of the manual page.
 #[derive(Clone, Copy, Debug)]
@@ -96,16 +97,79 @@ impl fmt::Display for Form {
     }
 }
 
+/// The forms of words in a row: those of a table, or of the fields of a call.
+#[derive(Clone, Copy, Debug)]
+pub(crate) enum Forms {
+    Own(&'static [Form]),
+    Call(&'static [FieldForm]),
+}
+
+impl Forms {
+    pub(crate) fn len(self) -> usize {
+        match self {
+            Forms::Own(forms) => forms.len(),
+            Forms::Call(fields) => fields.len(),
+        }
+    }
+
+    pub(crate) fn is_empty(self) -> bool {
+        self.len() == 0
+    }
+
+    pub(crate) fn get(self, index: usize) -> Option<Form> {
+        match self {
+            Forms::Own(forms) => forms.get(index).copied(),
+            Forms::Call(fields) => Some(Form::of_field(*fields.get(index)?)),
+        }
+    }
+
+    /// Those behind so many.
+    pub(crate) fn behind(self, count: usize) -> Forms {
+        match self {
+            Forms::Own(forms) => Forms::Own(forms.get(count..).unwrap_or(&[])),
+            Forms::Call(fields) => Forms::Call(fields.get(count..).unwrap_or(&[])),
+        }
+    }
+}
+
 /// A first word, and what stands behind it.
 #[derive(Clone, Copy, Debug)]
 pub(crate) struct FirstWord {
     pub(crate) word: &'static str,
-    pub(crate) forms: &'static [Form],
+    pub(crate) forms: Forms,
+}
+
+/// First words: those of a table, or those of the calls, and `wait`.
+#[derive(Clone, Copy)]
+pub(crate) enum Rows {
+    Own(&'static [FirstWord]),
+    Calls,
+}
+
+impl Rows {
+    pub(crate) fn len(self) -> usize {
+        match self {
+            Rows::Own(rows) => rows.len(),
+            Rows::Calls => SCRIPT_WORDS.len().saturating_add(1),
+        }
+    }
+
+    pub(crate) fn get(self, index: usize) -> Option<FirstWord> {
+        match self {
+            Rows::Own(rows) => rows.get(index).copied(),
+            Rows::Calls => match SCRIPT_WORDS.get(index) {
+                Some(word) => Some(FirstWord {
+                    word: word.text(),
+                    forms: Forms::Call(form_of(*word)),
+                }),
+                None if index == SCRIPT_WORDS.len() => Some(WAIT),
+                None => None,
+            },
+        }
+    }
 }
 
 const PID: Form = Form::Number("PID", 0);
-
-const FD: Form = Form::Number("FD", 0);
 
 const N: Form = Form::Number("N", 0);
 
@@ -113,231 +177,105 @@ const UID: Form = Form::Number("UID", 0);
 
 const GID: Form = Form::Number("GID", 0);
 
-const MODE: Form = Form::Choice("MODE", &["r", "w", "rw"]);
-
-const TYPE: Form = Form::Choice("TYPE", &["stream", "dgram", "seq"]);
-
-const OFLAGS: Form = Form::Letters("OFLAGS", "anx");
-
-const MFLAGS: Form = Form::Letters("MFLAGS", "dptx");
-
-const WHENCE: Form = Form::Choice("WHENCE", &["set", "cur", "end"]);
-
-const VALUE: Form = Form::Number("VALUE", 0);
-
-const OPT: Form = Form::Choice(
-    "OPT",
-    &["type", "error", "passcred", "peercred", "accept", "qlimit"],
-);
-
 /// The words of a process's line up to its call's.
-pub(crate) const TURN: &[Form] = &[PID, Form::Call];
+pub(crate) const TURN: Forms = Forms::Own(&[PID, Form::Call]);
 
-/// The calls, and `wait`.
-pub(crate) const CALLS: &[FirstWord] = &[
-    FirstWord {
-        word: "open",
-        forms: &[Form::Path, MODE, OFLAGS],
-    },
-    FirstWord {
-        word: "create",
-        forms: &[Form::Path, MODE, OFLAGS],
-    },
-    FirstWord {
-        word: "memfd",
-        forms: &[OFLAGS],
-    },
-    FirstWord {
-        word: "eventfd",
-        forms: &[VALUE, OFLAGS],
-    },
-    FirstWord {
-        word: "pipe",
-        forms: &[OFLAGS],
-    },
-    FirstWord {
-        word: "read",
-        forms: &[FD, N],
-    },
-    FirstWord {
-        word: "write",
-        forms: &[FD, Form::Hex],
-    },
-    FirstWord {
-        word: "lseek",
-        forms: &[FD, Form::Signed("OFFSET", 64), WHENCE],
-    },
-    FirstWord {
-        word: "dup",
-        forms: &[FD],
-    },
-    FirstWord {
-        word: "dup2",
-        forms: &[FD, FD],
-    },
-    FirstWord {
-        word: "dupfd",
-        forms: &[FD, Form::Number("MIN", 0)],
-    },
-    FirstWord {
-        word: "getfl",
-        forms: &[FD],
-    },
-    FirstWord {
-        word: "flags",
-        forms: &[FD, OFLAGS],
-    },
-    FirstWord {
-        word: "close",
-        forms: &[FD],
-    },
-    FirstWord {
-        word: "unlink",
-        forms: &[Form::Path],
-    },
-    FirstWord {
-        word: "socket",
-        forms: &[TYPE, OFLAGS],
-    },
-    FirstWord {
-        word: "pair",
-        forms: &[TYPE, OFLAGS],
-    },
-    FirstWord {
-        word: "bind",
-        forms: &[FD, Form::Address],
-    },
-    FirstWord {
-        word: "listen",
-        forms: &[FD, Form::Signed("BACKLOG", 32)],
-    },
-    FirstWord {
-        word: "connect",
-        forms: &[FD, Form::Address],
-    },
-    FirstWord {
-        word: "accept",
-        forms: &[FD, OFLAGS],
-    },
-    FirstWord {
-        word: "shut",
-        forms: &[FD, MODE],
-    },
-    FirstWord {
-        word: "getopt",
-        forms: &[FD, OPT],
-    },
-    FirstWord {
-        word: "setopt",
-        forms: &[FD, OPT, VALUE],
-    },
-    FirstWord {
-        word: "sockname",
-        forms: &[FD],
-    },
-    FirstWord {
-        word: "peername",
-        forms: &[FD],
-    },
-    FirstWord {
-        word: "send",
-        forms: &[FD, Form::Target, Form::Hex, Form::Control, MFLAGS],
-    },
-    FirstWord {
-        word: "recv",
-        forms: &[FD, N, Form::Space, MFLAGS],
-    },
-    FirstWord {
-        word: "poll",
-        forms: &[FD],
-    },
-    FirstWord {
-        word: "setids",
-        forms: &[UID, GID],
-    },
-    FirstWord {
-        word: "fork",
-        forms: &[],
-    },
-    FirstWord {
-        word: "exec",
-        forms: &[],
-    },
-    FirstWord {
-        word: "exit",
-        forms: &[],
-    },
-    FirstWord {
-        word: "wait",
-        forms: &[PID, N],
-    },
-];
+const WAIT: FirstWord = FirstWord {
+    word: "wait",
+    forms: Forms::Own(&[PID, N]),
+};
 
 /// The kinds of a file object, in front of which `fail` may stand.
-pub(crate) const KINDS: &[FirstWord] = &[
+const KINDS: &[FirstWord] = &[
     FirstWord {
         word: "counter",
-        forms: &[],
+        forms: Forms::Own(&[]),
     },
     FirstWord {
         word: "pipe",
-        forms: &[],
+        forms: Forms::Own(&[]),
     },
     FirstWord {
         word: "mem",
-        forms: &[Form::Hex],
+        forms: Forms::Own(&[Form::Hex]),
     },
     FirstWord {
         word: "fail",
-        forms: &[Form::Number("N", 1), Form::Kind(false)],
+        forms: Forms::Own(&[Form::Number("N", 1), Form::Kind(false)]),
     },
 ];
 
 /// The kinds behind `fail N`.
-pub(crate) const LATER_KINDS: &[FirstWord] = &[
+const LATER_KINDS: &[FirstWord] = &[
     FirstWord {
         word: "counter",
-        forms: &[],
+        forms: Forms::Own(&[]),
     },
     FirstWord {
         word: "pipe",
-        forms: &[],
+        forms: Forms::Own(&[]),
     },
     FirstWord {
         word: "mem",
-        forms: &[Form::Hex],
+        forms: Forms::Own(&[Form::Hex]),
     },
 ];
 
 /// The words that begin a line, but for a process's number.
-pub(crate) const HEADS: &[FirstWord] = &[
+const HEADS: &[FirstWord] = &[
     FirstWord {
         word: "serial",
-        forms: &[],
+        forms: Forms::Own(&[]),
     },
     FirstWord {
         word: "object",
-        forms: &[Form::Path, Form::Kind(true)],
+        forms: Forms::Own(&[Form::Path, Form::Kind(true)]),
     },
     FirstWord {
         word: "proc",
-        forms: &[
+        forms: Forms::Own(&[
             UID,
             GID,
             Form::Choice("PRIV", &["0", "1"]),
             Form::Number("LIMIT", 0),
-        ],
+        ]),
     },
     FirstWord {
         word: "off",
-        forms: &[],
+        forms: Forms::Own(&[]),
     },
 ];
 
 /// The first word of a line.
-pub(crate) const HEAD: &[Form] = &[Form::Head];
+pub(crate) const HEAD: Forms = Forms::Own(&[Form::Head]);
 
 impl Form {
+    /// What the word of a field is to be.
+    fn of_field(field: FieldForm) -> Form {
+        match field.kind {
+            FieldKind::Fd | FieldKind::Number | FieldKind::Size | FieldKind::Value => {
+                Form::Number(field.sign, 0)
+            }
+            FieldKind::Space => Form::Space,
+            FieldKind::Offset => Form::Signed(field.sign, 64),
+            FieldKind::Backlog => Form::Signed(field.sign, 32),
+            FieldKind::Path => Form::Path,
+            FieldKind::Bytes => Form::Hex,
+            FieldKind::Addr => Form::Address,
+            FieldKind::Target => Form::Target,
+            FieldKind::Mode => Form::Choice(field.sign, &["r", "w", "rw"]),
+            FieldKind::Whence => Form::Choice(field.sign, &["set", "cur", "end"]),
+            FieldKind::SockType => Form::Choice(field.sign, &["stream", "dgram", "seq"]),
+            FieldKind::SockOpt => Form::Choice(
+                field.sign,
+                &["type", "error", "passcred", "peercred", "accept", "qlimit"],
+            ),
+            FieldKind::OpenFlags => Form::Letters(field.sign, "anx"),
+            FieldKind::MsgFlags => Form::Letters(field.sign, "dptx"),
+            FieldKind::Control => Form::Control,
+        }
+    }
+
     /// A word of this form.
     pub(crate) fn shortest(self) -> &'static str {
         match self {
@@ -355,12 +293,12 @@ impl Form {
     }
 
     /// The words of this form that decide what stands behind them.
-    pub(crate) fn rows(self) -> Option<&'static [FirstWord]> {
+    pub(crate) fn rows(self) -> Option<Rows> {
         match self {
-            Form::Head => Some(HEADS),
-            Form::Call => Some(CALLS),
-            Form::Kind(true) => Some(KINDS),
-            Form::Kind(false) => Some(LATER_KINDS),
+            Form::Head => Some(Rows::Own(HEADS)),
+            Form::Call => Some(Rows::Calls),
+            Form::Kind(true) => Some(Rows::Own(KINDS)),
+            Form::Kind(false) => Some(Rows::Own(LATER_KINDS)),
             _ => None,
         }
     }

@@ -5,6 +5,7 @@ mod boot;
 mod cause;
 mod context;
 mod control;
+mod elsewhere;
 mod excerpt;
 mod explanation;
 mod forms;
@@ -19,6 +20,7 @@ mod words;
 
 pub use boot::{BootExplanation, explain_boot};
 pub use cause::Cause;
+pub use elsewhere::Elsewhere;
 pub use excerpt::Excerpt;
 pub use explanation::{Explanation, explain, explain_line};
 pub use forms::Form;

@@ -3,7 +3,8 @@
 ghost use Rattle.std.specs.Prelude.{◌≡◌};
 
 use crate::cause::Cause;
-use crate::forms::{Form, HEAD, TURN};
+use crate::elsewhere::{call_elsewhere, value_elsewhere};
+use crate::forms::{Form, Forms, HEAD, TURN};
 use crate::near::{nearest_row, nearest_word};
 use crate::quoted::field_from;
 use crate::texts::word_from;
@@ -19,7 +20,7 @@ pub(crate) struct Mistake {
     /// Where the word begins that is wrong.
     pub(crate) start: usize,
     /// The forms of that word and of those behind it; none where the line is to end.
-    pub(crate) forms: &'static [Form],
+    pub(crate) forms: Forms,
 }
 
 impl Mistake {
@@ -31,7 +32,7 @@ impl Mistake {
             column,
             cause,
             start: column,
-            forms: &[],
+            forms: Forms::Own(&[]),
         }
     }
 }
@@ -44,20 +45,23 @@ struct Walked {
 }
 
 /// Goes over words of these forms from a column on.
-fn walk(text: &[u8], start: usize, forms: &'static [Form]) -> Result<Walked, Mistake> {
+fn walk(text: &[u8], start: usize, forms: Forms) -> Result<Walked, Mistake> {
     let mut last = start;
     let mut start = start;
-    for (index, form) in forms.iter().enumerate() {
-        let forms = forms.get(index..).unwrap_or(&[]);
-        let Some(word) = field_from(text, start, *form) else {
+    for index in 0..forms.len() {
+        let forms = forms.behind(index);
+        let Some(form) = forms.get(0) else {
+            break;
+        };
+        let Some(word) = field_from(text, start, form) else {
             return Err(Mistake {
                 column: text.len(),
-                cause: Cause::Missing(*form),
+                cause: Cause::Missing(form),
                 start,
                 forms,
             });
         };
-        if let Some(miss) = miss_of(*form, word) {
+        if let Some(miss) = miss_of(form, word) {
             return Err(Mistake {
                 column: start.saturating_add(miss.at),
                 cause: miss.cause,
@@ -72,25 +76,27 @@ fn walk(text: &[u8], start: usize, forms: &'static [Form]) -> Result<Walked, Mis
     Ok(Walked { last, next })
 }
 
-/// Nothing stands from a column on, which is one behind the blank behind a word.
-fn ends(text: &[u8], start: usize) -> Result<(), Mistake> {
-    if start > text.len() {
+/// Nothing stands from a column on, which is one behind the blank behind a word of this form.
+fn ends(text: &[u8], start: usize, last: Option<Form>) -> Result<(), Mistake> {
+    let Some(rest) = text.get(start..) else {
         return Ok(());
-    }
-    Err(Mistake::at(start.saturating_sub(1), Cause::Further))
+    };
+    let first = rest.iter().find(|byte| **byte != b' ');
+    let cause = match (first, last) {
+        (Some(b'#'), _) => Cause::LateComment,
+        (_, Some(Form::Path | Form::Address)) => Cause::FurtherBehindName,
+        _ => Cause::Further,
+    };
+    Err(Mistake::at(start.saturating_sub(1), cause))
 }
 
 /// The forms behind words of these, which the last of them decides.
-fn forms_behind(forms: &'static [Form], last: &[u8]) -> &'static [Form] {
-    let Some(form) = forms.last() else {
-        return &[];
-    };
-    let Some(rows) = form.rows() else {
-        return &[];
-    };
-    match row_of(rows, last) {
+fn forms_behind(forms: Forms, last: &[u8]) -> Forms {
+    let form = forms.get(forms.len().saturating_sub(1));
+    let rows = form.and_then(Form::rows);
+    match rows.and_then(|rows| row_of(rows, last)) {
         Some(row) => row.forms,
-        None => &[],
+        None => Forms::Own(&[]),
     }
 }
 
@@ -105,12 +111,14 @@ fn walk_line(text: &[u8]) -> Result<(), Mistake> {
     };
     let mut forms = if numbered { TURN } else { HEAD };
     let mut start = 0;
+    let mut last = None;
     for _ in 0..DECISIONS {
         let walked = walk(text, start, forms)?;
         start = walked.next;
+        last = forms.get(forms.len().saturating_sub(1)).or(last);
         forms = forms_behind(forms, word_from(text, walked.last).unwrap_or(&[]));
     }
-    ends(text, start)
+    ends(text, start, last)
 }
 
 /// Why a byte is wrong wherever it stands but in a text, else the cause.
@@ -121,6 +129,10 @@ fn cause_of_byte(text: &[u8], found: Mistake) -> Cause {
     let rest = text.get(found.column..).unwrap_or(&[]);
     match rest {
         [0xef, 0xbb, 0xbf, ..] if found.column == 0 => Cause::ByteOrderMark,
+        [0xff, 0xfe, ..] | [0xfe, 0xff, ..] if found.column == 0 => Cause::Utf16,
+        _ if found.column == 0 && text.contains(&0) => Cause::Binary,
+        [0, ..] => Cause::Binary,
+        [0xe2, 0x80, 0x98..=0x9f, ..] => Cause::TypographicMark,
         [first, ..] if *first == b'\t' => Cause::Tab,
         [first, ..] if *first == b'\r' => Cause::CarriageReturn,
         [first, ..] if *first == b' ' => cause_of_blank(rest, found),
@@ -142,12 +154,25 @@ fn cause_of_blank(rest: &[u8], found: Mistake) -> Cause {
     }
 }
 
+/// The cause where a word is one of manual pages, or begins a comment of other languages.
+fn cause_elsewhere(form: Form, word: &[u8]) -> Option<Cause> {
+    match form {
+        Form::Head if word.starts_with(b"//") => Some(Cause::OtherComment),
+        Form::Call => Some(Cause::Elsewhere(call_elsewhere(word)?)),
+        Form::Choice(_, words) => Some(Cause::Nearest(form, value_elsewhere(words, word)?)),
+        _ => None,
+    }
+}
+
 /// The cause with the nearest word, where a word is none of those that it may be.
 fn with_nearest(alloc: Global, text: &[u8], found: Mistake) -> Result<Cause, AllocError> {
     let word = word_from(text, found.start).unwrap_or(&[]);
     let Cause::Expected(form) = found.cause else {
         return Ok(found.cause);
     };
+    if let Some(cause) = cause_elsewhere(form, word) {
+        return Ok(cause);
+    }
     let nearest = match form {
         Form::Choice(_, words) => nearest_word(alloc, words, word)?,
         _ => match form.rows() {

@@ -4,15 +4,18 @@ ghost use Rattle.std.specs.Prelude.{◌≡◌, ℕ, true, IfOk};
 ghost use Rattle.ux_explain.specs.Places.{IsPlace};
 
 use crate::cause::Cause;
-use crate::forms::{FirstWord, Form};
+use crate::forms::{Form, Forms, Rows};
 use crate::lines::{Mistake, line_fault};
 use std::alloc::{AllocError, Global};
 use ux_syntax::is_line;
 
 /// These bytes, and behind them words of these forms.
-fn rest_of(alloc: Global, ending: &[u8], forms: &[Form]) -> Result<Vec<u8>, AllocError> {
+fn rest_of(alloc: Global, ending: &[u8], forms: Forms) -> Result<Vec<u8>, AllocError> {
     let mut rest = Vec::from_slice(alloc, ending)?;
-    for form in forms {
+    for index in 0..forms.len() {
+        let Some(form) = forms.get(index) else {
+            break;
+        };
         rest.push(b' ')?;
         rest.extend_from_slice(form.shortest().as_bytes())?;
     }
@@ -32,7 +35,7 @@ fn completes(
     text: &[u8],
     column: usize,
     ending: &[u8],
-    forms: &[Form],
+    forms: Forms,
 ) -> Result<bool, AllocError>
     ensures { IfOk result (λ yes. yes ≡ true → IsPlace text.now column) }
 {
@@ -51,7 +54,7 @@ fn any_ending_completes(
     text: &[u8],
     column: usize,
     endings: &[&str],
-    forms: &[Form],
+    forms: Forms,
 ) -> Result<bool, AllocError>
     ensures { IfOk result (λ yes. yes ≡ true → IsPlace text.now column) }
 {
@@ -69,7 +72,7 @@ fn any_word_completes(
     text: &[u8],
     found: Mistake,
     words: &[&str],
-    forms: &[Form],
+    forms: Forms,
 ) -> Result<bool, AllocError>
     ensures { IfOk result (λ yes. yes ≡ true → IsPlace text.now found.column) }
 {
@@ -91,11 +94,14 @@ fn any_row_completes(
     alloc: Global,
     text: &[u8],
     found: Mistake,
-    rows: &[FirstWord],
+    rows: Rows,
 ) -> Result<bool, AllocError>
     ensures { IfOk result (λ yes. yes ≡ true → IsPlace text.now found.column) }
 {
-    for row in rows {
+    for index in 0..rows.len() {
+        let Some(row) = rows.get(index) else {
+            break;
+        };
         if let Some(ending) = row
             .word
             .as_bytes()
@@ -113,16 +119,17 @@ fn any_row_completes(
 fn is_place(alloc: Global, text: &[u8], found: Mistake) -> Result<bool, AllocError>
     ensures { IfOk result (λ yes. yes ≡ true → IsPlace text.now found.column) }
 {
-    let [form, more @ ..] = found.forms else {
-        return completes(alloc, text, found.column, b"", &[]);
+    let Some(form) = found.forms.get(0) else {
+        return completes(alloc, text, found.column, b"", found.forms);
     };
+    let more = found.forms.behind(1);
     if let Cause::Missing(_) = found.cause {
         return completes(alloc, text, found.column, b"", found.forms);
     }
     if let Some(rows) = form.rows() {
         return any_row_completes(alloc, text, found, rows);
     }
-    match *form {
+    match form {
         Form::Choice(_, words) => any_word_completes(alloc, text, found, words, more),
         _ => any_ending_completes(alloc, text, found.column, form.endings(), more),
     }

@@ -2,7 +2,7 @@
 
 use crate::cause::Cause;
 use crate::control::control_miss;
-use crate::forms::{FirstWord, Form};
+use crate::forms::{FirstWord, Form, Rows};
 use crate::names::{address_miss, path_miss, target_miss};
 use crate::numbers::{number_miss, rights_miss, signed_miss, space_miss};
 use crate::quoted::text_miss;
@@ -48,20 +48,29 @@ fn longest_common(words: &[&str], word: &[u8]) -> usize {
 }
 
 /// The same of the first words of rows.
-fn longest_in(rows: &[FirstWord], word: &[u8]) -> usize {
+fn longest_in(rows: Rows, word: &[u8]) -> usize {
     let mut longest: usize = 0;
-    for row in rows {
+    for index in 0..rows.len() {
+        let Some(row) = rows.get(index) else {
+            break;
+        };
         longest = longest.max(common(word, row.word.as_bytes()));
     }
     longest
 }
 
 /// The row of this first word.
-pub(crate) fn row_of(rows: &'static [FirstWord], word: &[u8]) -> Option<FirstWord> {
-    rows.iter().find(|row| row.word.as_bytes() == word).copied()
+pub(crate) fn row_of(rows: Rows, word: &[u8]) -> Option<FirstWord> {
+    for index in 0..rows.len() {
+        let row = rows.get(index)?;
+        if row.word.as_bytes() == word {
+            return Some(row);
+        }
+    }
+    None
 }
 
-fn row_miss(rows: &'static [FirstWord], word: &[u8], form: Form) -> Option<Miss> {
+fn row_miss(rows: Rows, word: &[u8], form: Form) -> Option<Miss> {
     if row_of(rows, word).is_some() {
         return None;
     }

@@ -201,12 +201,12 @@ impl fmt::Display for TieText<'_> {
 
 /// A description's number, and whether it is gone.
 #[derive(Clone, Copy)]
-pub(crate) struct Place {
+pub(crate) struct PeerText {
     number: u128,
     is_gone: bool,
 }
 
-impl fmt::Display for Place {
+impl fmt::Display for PeerText {
     fn fmt<W: fmt::Write>(&self, f: &mut fmt::Formatter<W>) -> fmt::Result {
         let number = self.number;
         let gone = flag_text(self.is_gone, ", gone");
@@ -220,8 +220,8 @@ impl Snapshot {
         self.descriptions.iter().any(|row| row.id == id)
     }
 
-    fn place_of(&self, id: DescriptionId) -> Place {
-        Place {
+    fn place_of(&self, id: DescriptionId) -> PeerText {
+        PeerText {
             number: id.number(),
             is_gone: !self.has(id),
         }
@@ -236,7 +236,7 @@ impl fmt::Display for MessageLines<'_> {
         let mut index: usize = 0;
         for row in self.0 {
             let text = MessageText { index, row };
-            let rights = RightsText(row.rights.as_slice());
+            let rights = PassedText(row.rights.as_slice());
             write!(f, "  {text}{rights}\n")?;
             index = index.saturating_add(1);
         }
@@ -266,9 +266,9 @@ impl fmt::Display for MessageText<'_> {
 
 /// The descriptions that a message passes, where it passes any.
 #[derive(Clone, Copy)]
-struct RightsText<'a>(&'a [DescriptionId]);
+struct PassedText<'a>(&'a [DescriptionId]);
 
-impl fmt::Display for RightsText<'_> {
+impl fmt::Display for PassedText<'_> {
     fn fmt<W: fmt::Write>(&self, f: &mut fmt::Formatter<W>) -> fmt::Result {
         let mut separator = ", passes ";
         for right in self.0 {

@@ -27,7 +27,6 @@ pub mod WaitEnds
 pub mod AcceptWaits
 pub mod SendWaits
 pub mod ConnectWaits
-pub mod ReplyKinds
 pub mod Unprivileged
 mod Play
 mod StreamExample

@@ -30,7 +30,7 @@ use Rattle.ux_model.proofs.Lists.Rising.{place_mapped}
 use Rattle.ux_model.proofs.Steps.Calls.{each_obeys}
 use Rattle.ux_model.proofs.Pedigrees.Moments.{moment}
 use Rattle.ux_laws.specs.Reach.{is_path, names_path, CallsLeavePathsAlone, AbstractNamesStay, AbstractNamesAreBound}
-use Rattle.ux_laws.proofs.Touching.Neither.{table_alike}
+use Rattle.ux_laws.proofs.Touching.Tables.{table_alike}
 use Rattle.ux_laws.proofs.Near.Leading.{by_own}
 use Rattle.ux_laws.proofs.LeftAlone.{Lost, stays_gone, rounds_lost, settled_lost}
 use Rattle.ux_laws.proofs.Touching.Contents.{NamesSame}

@@ -1,7 +1,6 @@
 -- Which calls change file objects and paths: a read and a write what a descriptor leads to; bind adds a socket's path, and unlink takes one
 -- away.
-pub mod Neither
-pub mod Messages
+pub mod Tables
 pub mod Contents
 pub mod Paths
 pub mod Making

@@ -114,12 +114,12 @@ reached_still S may stay T w (peers_made {T = U} D E r peers) = same_still U _ r
 reached_still S may stay T w (connection_made {T = U} d l cred listener_cred s listener r client free there) =
     same_still U _ refl (reached_still S may stay U w r)
 reached_still S may stay T w (description_changed {T = U} d x r keeps) = same_still U _ refl (reached_still S may stay U w r)
-reached_still S may stay T w (object_changed {T = U} o old new r h same) = same_still U _ refl (reached_still S may stay U w r)
-reached_still S may stay T w (paths_taken {T = U} keep r) = same_still U _ refl (reached_still S may stay U w r)
-reached_still S may stay T w (path_made {T = U} name o r there) = same_still U _ refl (reached_still S may stay U w r)
-reached_still S may stay T w (path_bound {T = U} name d r) = same_still U _ refl (reached_still S may stay U w r)
-reached_still S may stay T w (name_bound {T = U} name d r shown) = same_still U _ refl (reached_still S may stay U w r)
-reached_still S may stay T w (turned_off {T = U} r) = emptied_still U _ refl (reached_still S may stay U w r)
+reached_still S may stay T w (object_changed {T = U} o old new r h same told) = same_still U _ refl (reached_still S may stay U w r)
+reached_still S may stay T w (paths_taken {T = U} keep r told) = same_still U _ refl (reached_still S may stay U w r)
+reached_still S may stay T w (path_made {T = U} name o r there told) = same_still U _ refl (reached_still S may stay U w r)
+reached_still S may stay T w (path_bound {T = U} name d r told) = same_still U _ refl (reached_still S may stay U w r)
+reached_still S may stay T w (name_bound {T = U} name d r shown told) = same_still U _ refl (reached_still S may stay U w r)
+reached_still S may stay T w (turned_off {T = U} r told more) = emptied_still U _ refl (reached_still S may stay U w r)
 
 -- without privileges it may become what it is alone
 own_ids : (P X : Process) (uid gid : ℕ) → may_become uid gid X ≡ true → StaysUnprivileged P X → StaysUnprivileged P (with_ids uid gid X)

@@ -11,4 +11,3 @@ pub mod Rights
 pub mod Reach
 pub mod Ends
 pub mod Waits
-pub mod ReplyKinds

@@ -17,7 +17,7 @@ ghost use Rattle.ux_laws.specs.Records.{RecordsArriveInOrder, RecordsArriveOnce,
 ghost use Rattle.ux_laws.specs.Rights.{RightsComeOnce, RightsComeWithTheirMessage};
 ghost use Rattle.ux_laws.specs.Separation.{KeptFilesAreSeparated};
 ghost use Rattle.ux_laws.specs.Streams.{StreamsAreReliable};
-ghost use Rattle.ux_laws.specs.ReplyKinds.{RepliesAreOfTheirKind};
+ghost use Rattle.ux_model.specs.ReplyKinds.{RepliesAreOfTheirKind};
 ghost use Rattle.ux_laws.specs.Users.{UnprivilegedStaySo, ChildrenAreOfTheirParents};
 
 /// Credentials that a receive or a peek reports (SCM_CREDENTIALS) are those that the sending process had at
@@ -289,7 +289,7 @@ pub fn what_ends_a_wait_to_connect()
 {}
 
 /// A call is answered a refusal, or what its manual page says that it gives: `open` a descriptor, `read` bytes, and so on.
-#[tactic(auto, using(crate::proofs::ReplyKinds::replies_are_of_their_kind))]
+#[tactic(auto, using(ux_model::proofs::Sizes::ReplyKinds::replies_are_of_their_kind))]
 pub fn replies_are_of_their_kind()
     ensures { RepliesAreOfTheirKind }
 {}

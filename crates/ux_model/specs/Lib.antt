@@ -47,8 +47,10 @@ pub mod Users
 pub mod Forking
 pub mod Closing
 pub mod Step
+pub mod Asking
 pub mod Waiting
 pub mod Rooms
+pub mod ReplyKinds
 -- ---- a history
 
 pub mod Boot

@@ -10,6 +10,7 @@ ghost use Rattle.ux_model.specs.HandingOut.{HandsOutWhatWasHeld};
 ghost use Rattle.ux_model.specs.FreeChoices.{NeverLacksMemory, FailsWhereAnObjectFailed};
 ghost use Rattle.ux_model.specs.History.{LeadsToOne, FrontIsLegal, ExitAndForkAlone, LiveOnesCounted, ForkAloneMakes, ForkTellsTheNext, LivesUntilExit, NumberedFromOne, NoCallBeforeMade};
 ghost use Rattle.ux_model.specs.Peers.{OneGoes};
+ghost use Rattle.ux_model.specs.Asking.{AskingChangesNothing};
 ghost use Rattle.ux_model.specs.Invariants.{NoneLeftUnreferenced, SettlesAtOnce, StaysSettled, RefusalChangesNothing, RefusedEntryChangesNothing, WholeAfterAnyCalls, NothingDangles, ClosedOnce, BootObjectsClosedOnce, TheseAloneMakeObjects};
 ghost use Rattle.ux_model.specs.ReadyCalls.{TellsInput, TellsRoom};
 ghost use Rattle.ux_model.specs.FlightLaws.{FlightIsLimited, FlightOfUsersIsLimited};
@@ -170,6 +171,13 @@ pub fn legal_history_stays_settled()
 #[tactic(auto, using(crate::proofs::Invariants::Refusals::refusal_changes_nothing))]
 pub fn refusal_changes_nothing()
     ensures { RefusalChangesNothing }
+{}
+
+/// A call that only asks leaves the very state, of which nothing was left to release, and releases nothing, whatever it
+/// answers.
+#[tactic(auto, using(crate::proofs::Invariants::Refusals::asking_changes_nothing))]
+pub fn asking_changes_nothing()
+    ensures { AskingChangesNothing }
 {}
 
 /// So of each entry of a legal history that reports an error.

@@ -4,7 +4,8 @@ ghost use Rattle.ux_model.specs.Limits.{made_limit};
 ghost use Rattle.ux_orders.specs.Outcomes.{SameOutcome, answer_of, answers_of};
 
 use crate::ran::Ran;
-use ux_types::{Entry, Pid, Reply};
+use ux_fields::is_same_reply;
+use ux_types::{Entry, Pid};
 
 /// Whether two runs have the same outcome: each of the processes 1 to `count` has the same replies and closed the same
 /// file objects, in its order; and all have exited, or the same ones wait in the same lines. A run that was broken off
@@ -55,14 +56,6 @@ fn is_same_answer(one: &Entry, other: &Entry) -> bool
     ensures { IsTrue result ↔ (answer_of one.now ≡ answer_of other.now) }
 {
     is_same_reply(&one.reply, &other.reply) && one.released == other.released
-}
-
-/// Whether two replies are equal: `==`, with a contract that speaks of whole replies.
-#[tactic(auto, using(crate::proofs::SameReplies::same_reply))]
-fn is_same_reply(one: &Reply, other: &Reply) -> bool
-    ensures { IsTrue result ↔ (one.now ≡ other.now) }
-{
-    one == other
 }
 
 /// The process's next entry, and those after it.

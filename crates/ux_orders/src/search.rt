@@ -32,7 +32,7 @@ impl Reduction {
 
 /// One line of the order that is made.
 #[derive(Drop)]
-struct Place {
+struct OrderLine {
     /// Which process makes it.
     chosen: Pid,
     /// Which processes needn't make it: each order in which they do has the outcome of one that was made.
@@ -47,7 +47,7 @@ struct Place {
 #[derive(Drop)]
 pub(crate) struct Search {
     alloc: Global,
-    places: Vec<Place>,
+    places: Vec<OrderLine>,
     /// How many of the places are made again as they are.
     kept: usize,
     reduction: Reduction,
@@ -132,7 +132,7 @@ impl Search {
         };
         let chosen = ready[place];
         let still_asleep = self.still_asleep(&asleep, ready, chosen)?;
-        self.places.push(Place {
+        self.places.push(OrderLine {
             chosen: chosen.pid,
             more: next_awake(ready, place + 1, above, &asleep).is_some(),
             asleep,
@@ -210,9 +210,9 @@ impl Chooser for Search {
     }
 }
 
-/// A place at which no process is left to be chosen.
-fn exhausted(alloc: Global, asleep: Vec<Pid>) -> Place {
-    Place {
+/// A line for which no process is left to be chosen.
+fn exhausted(alloc: Global, asleep: Vec<Pid>) -> OrderLine {
+    OrderLine {
         chosen: Pid(0),
         asleep,
         still_asleep: Vec::new(alloc),

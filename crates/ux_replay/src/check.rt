@@ -5,8 +5,8 @@ ghost use Rattle.ux_replay.specs.Again.{is_left_out, IsMadeAgain, IsAgain, AreAg
 ghost use Rattle.ux_replay.specs.Faults.{entry_at};
 ghost use Rattle.ux_kernel.specs.Calling.{IsCaller};
 
-use crate::same::is_same_reply;
 use std::alloc::Global;
+use ux_fields::is_same_reply;
 use ux_kernel::Kernel;
 use ux_object::FileObject;
 use ux_state::ReleasedObjects;

@@ -2,7 +2,6 @@
 #![tactic(auto)]
 
 mod check;
-mod same;
 mod script_calls;
 
 pub use check::{ReplayFault, check_history, replay, replay_entry, replay_on};

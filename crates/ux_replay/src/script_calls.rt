@@ -5,7 +5,7 @@ ghost use Rattle.ux_syntax.specs.Spelling.{plan_of, known_count};
 ghost use Rattle.ux_syntax.specs.Turns.{has_exited};
 ghost use Rattle.ux_replay.specs.Runs.{requests_of, asked, ending, turns, MakesAll, MakesFirst, IsFront};
 
-use crate::same::is_same_request;
+use ux_fields::is_same_request;
 use ux_syntax::{Act, Line, Script};
 use ux_types::{Entry, Request};
 

@@ -100,6 +100,50 @@ fn what_is_no_moment_is_refused(rt: HostRuntime) -> Result<(), Fail> {
 }
 
 #[test]
+fn several_scripts_go_with_what_is_expected(rt: HostRuntime) -> Result<(), Fail> {
+    let words = texts(rt.alloc(), &["uxrun", "--expect", "a.ux", "b.ux", "-"])?;
+    let Ok(args) = read_args(rt.alloc(), words.as_slice()) else {
+        return Err(Fail::from("not understood"));
+    };
+    let several = args.several.ok_or("one script")?;
+    assert_eq!(rt; several.as_slice(), ["a.ux", "b.ux", "-"].as_slice());
+    for option in ["--check", "--json", "--orders", "--sequence"] {
+        let words = texts(rt.alloc(), &["uxrun", "--expect", option, "a.ux", "b.ux"])?;
+        let reported = read_args(rt.alloc(), words.as_slice())
+            .err()
+            .ok_or("understood")?;
+        assert_eq!(rt; reported.exit_code(), 2);
+    }
+    let words = texts(rt.alloc(), &["uxrun", "a.ux", "b.ux"])?;
+    let reported = read_args(rt.alloc(), words.as_slice())
+        .err()
+        .ok_or("understood")?;
+    assert!(rt; reported.kind() == ErrorKind::ArgumentConflict);
+    Ok(())
+}
+
+#[test]
+fn a_script_that_an_option_took_is_missed(rt: HostRuntime) -> Result<(), Fail> {
+    let words = texts(rt.alloc(), &["uxrun", "--check", "--audit", "-"])?;
+    let reported = read_args(rt.alloc(), words.as_slice())
+        .err()
+        .ok_or("understood")?;
+    let text = format!(in rt.alloc(); "{reported}")?;
+    assert!(rt; reported.kind() == ErrorKind::MissingRequiredArgument);
+    assert!(rt;
+        text.contains("the last word is the value of the option before it"),
+        "{text}"
+    );
+    let words = texts(rt.alloc(), &["uxrun", "--check"])?;
+    let reported = read_args(rt.alloc(), words.as_slice())
+        .err()
+        .ok_or("understood")?;
+    let text = format!(in rt.alloc(); "{reported}")?;
+    assert!(rt; !text.contains("the last word"), "{text}");
+    Ok(())
+}
+
+#[test]
 fn a_check_is_asked_for(rt: HostRuntime) -> Result<(), Fail> {
     let words = texts(rt.alloc(), &["uxrun", "--check", "a.ux"])?;
     let Ok(args) = read_args(rt.alloc(), words.as_slice()) else {

@@ -7,8 +7,9 @@ use Rattle.ux_model.specs.Types.{Request}
 use Rattle.ux_syntax.specs.declared.fault.Fault.{Fault}
 use Rattle.ux_syntax.specs.declared.fault.Fault.TheVariants.{BadLine}
 use Rattle.ux_syntax.specs.declared.script.Act.{Act}
-use Rattle.ux_trace.specs.Trace.{word_text, request_word}
-use Rattle.ux_syntax.specs.Spelling.{Written, meaning, Asked, call, wait, act_of, asked_words, FitsAsked}
+use Rattle.ux_fields.specs.declared.CallWord.{CallWord}
+use Rattle.ux_fields.specs.Forms.{word_text, is_off_word}
+use Rattle.ux_syntax.specs.Spelling.{Asked, call, wait, act_of, asked_words, FitsAsked}
 use Rattle.ux_syntax.specs.Reading.{◌>>=◌, number_at, ends, ◌>>◌, word_at, args_at, wait_at, call_at, act_at}
 use Rattle.ux_syntax.proofs.Rows.{IsSolid, solid_from, IsBadOrOk, either_bad, bind_bad, bind_ok, done, ok_is, number_kind, ends_row}
 use Rattle.ux_syntax.proofs.Rows.{row_then}
@@ -45,11 +46,10 @@ call_takes : (w : List ℕ) (ws : List (List ℕ)) (act : Act) → call_at w ws 
 call_takes w ws act e =
     let a = bind_ok (word_at w) (λ word. args_at word ws >>= λ r. Ok (Act.Call r)) act e in
     let b = bind_ok (args_at a.0 ws) (λ r. Ok (Act.Call r)) act a.2 in
-    let p = args_takes a.0 ws b.0 b.1 in
-    let first : w ≡ word_text (request_word (meaning p.call)) = word_takes w a.0 a.1 ∙ ap word_text (sym p.names) in (
-      call p.call,
+    let p = args_takes a.0 ws b.0 b.1 in (
+      call (record { word = a.0; fields = p.fields }),
       ap (λ (r : Request). Act.Call r) p.means ∙ ok_is (Act.Call b.0) act b.2,
-      ap (λ (x : List ℕ). x ∷ ws) first ∙ ap (λ (xs : List (List ℕ)). word_text (request_word (meaning p.call)) ∷ xs) p.args,
+      ap (λ (x : List ℕ). x ∷ ws) (word_takes w a.0 a.1) ∙ ap (λ (xs : List (List ℕ)). word_text a.0 ∷ xs) p.args,
       p.fits,
     )
 
@@ -80,14 +80,14 @@ not_a_call : word_at (codes "wait") ≡ Err BadLine
 unfolding word_at
 not_a_call = refl
 
-not_wait : (c : Written) → bytes_eq (word_text (request_word (meaning c))) (codes "wait") ≡ false
-not_wait c = other_than word_at (word_text (request_word (meaning c))) (codes "wait") (request_word (meaning c)) (word_again c) not_a_call
+not_wait : (word : CallWord) → is_off_word word ≡ false → bytes_eq (word_text word) (codes "wait") ≡ false
+not_wait word h = other_than word_at (word_text word) (codes "wait") word (word_again word h) not_a_call
 
 pub act_again : (a : Asked) → FitsAsked a → act_at (asked_words a) ≡ Ok (act_of a)
 unfolding act_at wait_at
-act_again (call c) f = rw (not_wait c, word_again c, args_again c f) refl
+act_again (call c) f = rw (not_wait c.word f.0, word_again c.word f.0, args_again c f) refl
 act_again (wait pid calls) f = rw (number_kind.again pid f.0, number_kind.again calls f.1) refl
 
 pub asked_solid : (a : Asked) → FitsAsked a → AllByRecursion IsSolid (asked_words a)
-asked_solid (call c) f = (word_solid c, args_solid c f)
+asked_solid (call c) f = (word_solid c.word f.0, args_solid c f)
 asked_solid (wait pid calls) f = (solid_from (codes "wait") refl, (number_kind.solid pid f.0, (number_kind.solid calls f.1, tt)))

@@ -19,9 +19,9 @@ use Rattle.ux_trace.specs.Trace.{hex, path_text}
 use Rattle.ux_syntax.specs.Digits.{◌>>=◌}
 use Rattle.ux_syntax.specs.Text.{hex_word_at, raw_word_at, first_word, space_at, space_word_at, special_word_at, plain_fields, behind}
 use Rattle.ux_syntax.specs.Text.{call_fields, fields_by, fields_of, plain_line}
-use Rattle.ux_syntax.specs.Spelling.{open_path, create_path, mem_fd, event_fd, pipe, read_fd, write_fd, seek, dup_fd, dup_onto, dup_above}
-use Rattle.ux_syntax.specs.Spelling.{get_flags, set_flags, close, unlink_path, socket, pair, bind, listen, connect, accept, shut, get_opt}
-use Rattle.ux_syntax.specs.Spelling.{set_opt, sock_name, peer_name, send, recv, poll, set_ids, fork, exec, exit, Asked, call, wait, Turn}
+use Rattle.ux_fields.specs.declared.CallWord.{CallWord}
+use Rattle.ux_fields.specs.Forms.{word_text, kinds}
+use Rattle.ux_syntax.specs.Spelling.{WrittenRow, spellings, FitsCall, Asked, call, wait, Turn}
 use Rattle.ux_syntax.specs.Spelling.{asked_words, turn_line, kind_text, fail_words, body_words, header_words, header_line, serial_lines}
 use Rattle.ux_syntax.specs.Spelling.{off_lines, control_text, msg_flags, AreBytes, IsNumber, FitsBody, FitsControl, FitsAsked, FitsTurn}
 use Rattle.ux_syntax.specs.Spelling.{FitsHeader}
@@ -167,13 +167,15 @@ turn_stays_by : (pid : ℕ) (a : Asked) (fields : List Field) → IsNumber pid �
 turn_stays_by pid a fields p f e h = line_stays (decimal pid ∷ asked_words a) fields (number_kind.solid pid p, asked_solid a f)
     (of_number pid (get_or (asked_words a) 0 []) (get_or (asked_words a) 1 []) p ∙ e) h
 
-asked_stays : (pid : ℕ) (a : Asked) → IsNumber pid → FitsAsked a →
-    plain_line (join_with_byte 32 (decimal pid ∷ asked_words a)) ≡ join_with_byte 32 (decimal pid ∷ asked_words a)
-asked_stays pid (wait other calls) p f = turn_stays_by pid (wait other calls) [] p f refl tt
-asked_stays pid (call (write_fd fd bytes)) p f =
-    turn_stays_by pid (call (write_fd fd bytes)) (behind 3 (Field.Hex ∷ [])) p f refl (refl, (refl, (refl, (hex_stays bytes [] f.1, tt))))
-asked_stays pid (call (send fd addr bytes control flags)) p f =
-    turn_stays_by pid (call (send fd addr bytes control flags)) (behind 4 (Field.Hex ∷ Field.Raw ∷ [])) p f refl (
+-- the last line stands for each other call
+call_stays : (pid : ℕ) (word : CallWord) (row : WrittenRow (kinds word)) → IsNumber pid → FitsCall (record { word = word; fields = row }) →
+    plain_line (join_with_byte 32 (decimal pid ∷ word_text word ∷ spellings (kinds word) row))
+    ≡ join_with_byte 32 (decimal pid ∷ word_text word ∷ spellings (kinds word) row)
+call_stays pid CallWord.Write row p f =
+    turn_stays_by pid (call (record { word = CallWord.Write; fields = row })) (behind 3 (Field.Hex ∷ [])) p f refl
+    (refl, (refl, (refl, (hex_stays row.1.0 [] f.1.1.0, tt))))
+call_stays pid CallWord.Send row p f =
+    turn_stays_by pid (call (record { word = CallWord.Send; fields = row })) (behind 4 (Field.Hex ∷ Field.Raw ∷ [])) p f refl (
       refl,
       (
         refl,
@@ -182,46 +184,22 @@ asked_stays pid (call (send fd addr bytes control flags)) p f =
           (
             refl,
             (
-              hex_stays bytes (control_text control ∷ msg_flags flags ∷ []) f.2,
-              (control_stays control (msg_flags flags) [] f.3, tt),
+              hex_stays row.1.1.0 (control_text row.1.1.1.0 ∷ msg_flags row.1.1.1.1.0 ∷ []) f.1.1.1.0,
+              (control_stays row.1.1.1.0 (msg_flags row.1.1.1.1.0) [] f.1.1.1.1.0, tt),
             ),
           ),
         ),
       ),
     )
-asked_stays pid (call (recv fd n space flags)) p f =
-    turn_stays_by pid (call (recv fd n space flags)) (behind 4 (Field.Space ∷ [])) p f refl
-    (refl, (refl, (refl, (refl, (space_stays space (msg_flags flags ∷ []) f.2, tt)))))
-asked_stays pid (call (open_path path mode flags)) p f = turn_stays_by pid (call (open_path path mode flags)) [] p f refl tt
-asked_stays pid (call (create_path path mode flags)) p f = turn_stays_by pid (call (create_path path mode flags)) [] p f refl tt
-asked_stays pid (call (mem_fd flags)) p f = turn_stays_by pid (call (mem_fd flags)) [] p f refl tt
-asked_stays pid (call (event_fd value flags)) p f = turn_stays_by pid (call (event_fd value flags)) [] p f refl tt
-asked_stays pid (call (pipe flags)) p f = turn_stays_by pid (call (pipe flags)) [] p f refl tt
-asked_stays pid (call (read_fd fd n)) p f = turn_stays_by pid (call (read_fd fd n)) [] p f refl tt
-asked_stays pid (call (seek fd offset whence)) p f = turn_stays_by pid (call (seek fd offset whence)) [] p f refl tt
-asked_stays pid (call (dup_fd fd)) p f = turn_stays_by pid (call (dup_fd fd)) [] p f refl tt
-asked_stays pid (call (dup_onto fd other)) p f = turn_stays_by pid (call (dup_onto fd other)) [] p f refl tt
-asked_stays pid (call (dup_above fd minimum)) p f = turn_stays_by pid (call (dup_above fd minimum)) [] p f refl tt
-asked_stays pid (call (get_flags fd)) p f = turn_stays_by pid (call (get_flags fd)) [] p f refl tt
-asked_stays pid (call (set_flags fd flags)) p f = turn_stays_by pid (call (set_flags fd flags)) [] p f refl tt
-asked_stays pid (call (close fd)) p f = turn_stays_by pid (call (close fd)) [] p f refl tt
-asked_stays pid (call (unlink_path path)) p f = turn_stays_by pid (call (unlink_path path)) [] p f refl tt
-asked_stays pid (call (socket kind flags)) p f = turn_stays_by pid (call (socket kind flags)) [] p f refl tt
-asked_stays pid (call (pair kind flags)) p f = turn_stays_by pid (call (pair kind flags)) [] p f refl tt
-asked_stays pid (call (bind fd addr)) p f = turn_stays_by pid (call (bind fd addr)) [] p f refl tt
-asked_stays pid (call (listen fd backlog)) p f = turn_stays_by pid (call (listen fd backlog)) [] p f refl tt
-asked_stays pid (call (connect fd addr)) p f = turn_stays_by pid (call (connect fd addr)) [] p f refl tt
-asked_stays pid (call (accept fd flags)) p f = turn_stays_by pid (call (accept fd flags)) [] p f refl tt
-asked_stays pid (call (shut fd how)) p f = turn_stays_by pid (call (shut fd how)) [] p f refl tt
-asked_stays pid (call (get_opt fd opt)) p f = turn_stays_by pid (call (get_opt fd opt)) [] p f refl tt
-asked_stays pid (call (set_opt fd opt value)) p f = turn_stays_by pid (call (set_opt fd opt value)) [] p f refl tt
-asked_stays pid (call (sock_name fd)) p f = turn_stays_by pid (call (sock_name fd)) [] p f refl tt
-asked_stays pid (call (peer_name fd)) p f = turn_stays_by pid (call (peer_name fd)) [] p f refl tt
-asked_stays pid (call (poll fd)) p f = turn_stays_by pid (call (poll fd)) [] p f refl tt
-asked_stays pid (call (set_ids uid gid)) p f = turn_stays_by pid (call (set_ids uid gid)) [] p f refl tt
-asked_stays pid (call fork) p f = turn_stays_by pid (call fork) [] p f refl tt
-asked_stays pid (call exec) p f = turn_stays_by pid (call exec) [] p f refl tt
-asked_stays pid (call exit) p f = turn_stays_by pid (call exit) [] p f refl tt
+call_stays pid CallWord.Recv row p f =
+    turn_stays_by pid (call (record { word = CallWord.Recv; fields = row })) (behind 4 (Field.Space ∷ [])) p f refl
+    (refl, (refl, (refl, (refl, (space_stays row.1.1.0 (msg_flags row.1.1.1.0 ∷ []) f.1.1.1.0, tt)))))
+call_stays pid word row p f = turn_stays_by pid (call (record { word = word; fields = row })) [] p f refl tt
+
+asked_stays : (pid : ℕ) (a : Asked) → IsNumber pid → FitsAsked a →
+    plain_line (join_with_byte 32 (decimal pid ∷ asked_words a)) ≡ join_with_byte 32 (decimal pid ∷ asked_words a)
+asked_stays pid (wait other calls) p f = turn_stays_by pid (wait other calls) [] p f refl tt
+asked_stays pid (call c) p f = call_stays pid c.word c.fields p f
 
 turn_stays : (t : Turn) → FitsTurn t → plain_line (turn_line t) ≡ turn_line t
 turn_stays t f = asked_stays t.pid t.asked f.0 f.1

@@ -7,12 +7,15 @@ use Rattle.std.specs.Str.{bytes_eq}
 use Rattle.std.specs.Char.{is_ascii_digit}
 use Rattle.std.specs.Str.Parse.{signed_digits_value}
 use Rattle.ux_model.specs.Limits.{made_limit}
-use Rattle.ux_model.specs.Types.{Cred, Name, Addr, OpenFlags, MsgFlags, SockType, SockOpt, Mode, Whence, ProcSpec, Request}
+use Rattle.ux_model.specs.Types.{Cred, Fd, Name, Addr, OpenFlags, MsgFlags, SockType, SockOpt, Mode, Whence, ProcSpec, Request}
 use Rattle.ux_object.specs.declared.ObjKind.{ObjKind}
 use Rattle.ux_syntax.specs.declared.fault.Fault.{Fault}
 use Rattle.ux_syntax.specs.declared.fault.Fault.TheVariants.{BadLine, UnknownProcess, TooLong}
 use Rattle.ux_syntax.specs.declared.fault.ScriptFault.{ScriptFault}
-use Rattle.ux_trace.specs.declared.call_word.CallWord.{CallWord}
+use Rattle.ux_fields.specs.declared.CallWord.{CallWord}
+use Rattle.ux_fields.specs.declared.FieldKind.{FieldKind}
+use Rattle.ux_fields.specs.Forms.{word_text, kinds, script_words}
+use Rattle.ux_fields.specs.Rows.{request_of}
 use Rattle.ux_syntax.specs.declared.control.ControlItem.{ControlItem}
 use Rattle.ux_syntax.specs.declared.control.ControlWord.{ControlWord}
 use Rattle.ux_syntax.specs.declared.script.ObjectLine.{ObjectLine}
@@ -20,13 +23,11 @@ use Rattle.ux_syntax.specs.declared.script.Header.{Header}
 use Rattle.ux_syntax.specs.declared.script.Act.{Act}
 use Rattle.ux_syntax.specs.Lines.{Line}
 use Rattle.ux_syntax.specs.declared.reading.Parsed.{Parsed}
-use Rattle.ux_trace.specs.Trace.{dash, stands, word_text}
+use Rattle.ux_trace.specs.Trace.{dash, stands}
 pub use Rattle.ux_syntax.specs.Digits.{◌>>=◌, is_plain, digit_at}
 unfoldable pub use Rattle.ux_syntax.specs.Digits.{number_at}
 use Rattle.ux_syntax.specs.Text.{plain_line}
-use Rattle.ux_syntax.specs.Spelling.{Plan, open_path, create_path, mem_fd, event_fd, pipe, read_fd, write_fd, seek, dup_fd, dup_onto}
-use Rattle.ux_syntax.specs.Spelling.{dup_above, get_flags, set_flags, close, unlink_path, socket, pair, bind, listen, connect, accept, shut}
-use Rattle.ux_syntax.specs.Spelling.{get_opt, set_opt, sock_name, peer_name, send, recv, poll, set_ids, fork, exec, exit, meaning, bit}
+use Rattle.ux_syntax.specs.Spelling.{Plan, WrittenValue, WrittenRow, meant_row, bit}
 use Rattle.ux_syntax.specs.Spelling.{mode_text, type_text, option_text, whence_text, kind_text, is_meant, asks_fork, asks_recorded}
 use Rattle.ux_syntax.specs.Spelling.{known_count, line_limit}
 use Rattle.ux_syntax.specs.Turns.{has_exited, is_known, awaits_known}
@@ -45,6 +46,10 @@ pairs_at (h ∷ l ∷ rest) = do
 unfoldable pub hex_at : List ℕ → Result (List ℕ) Fault
 hex_at [] = Err BadLine
 hex_at (c ∷ cs) = if bytes_eq (c ∷ cs) dash then Ok [] else pairs_at (c ∷ cs)
+
+-- a descriptor number
+abbrev pub fd_at : List ℕ → Result Fd Fault
+fd_at w = number_at w >>= λ n. Ok (record { 0 = n })
 
 abbrev pub or_bad : {A : Type 0} → Option A → Result A Fault
 or_bad None = Err BadLine
@@ -254,154 +259,42 @@ control_at (c ∷ colon ∷ rest) =
 
 -- ---- calls
 
-unfoldable pub open_at : List (List ℕ) → Result Request Fault
-open_at ws = (path_at >> mode_at >> open_flags_at >> ends) ws >>= λ x. Ok (meaning (open_path x.0 x.1.0 x.1.1.0))
+-- what a word says that is a field of this kind
+abbrev pub value_at : (kind : FieldKind) → List ℕ → Result (WrittenValue kind) Fault
+value_at FieldKind.Fd w = fd_at w
+value_at FieldKind.Number w = number_at w
+value_at FieldKind.Size w = number_at w
+value_at FieldKind.Space w = number_at w
+value_at FieldKind.Value w = number_at w
+value_at FieldKind.Offset w = offset_at w
+value_at FieldKind.Backlog w = backlog_at w
+value_at FieldKind.Path w = path_at w
+value_at FieldKind.Bytes w = hex_at w
+value_at FieldKind.Addr w = addr_at w
+value_at FieldKind.Target w = addr_or_dash_at w
+value_at FieldKind.Mode w = mode_at w
+value_at FieldKind.Whence w = whence_at w
+value_at FieldKind.SockType w = type_at w
+value_at FieldKind.SockOpt w = option_at w
+value_at FieldKind.OpenFlags w = open_flags_at w
+value_at FieldKind.MsgFlags w = msg_flags_at w
+value_at FieldKind.Control w = control_at w
 
-unfoldable pub create_at : List (List ℕ) → Result Request Fault
-create_at ws = (path_at >> mode_at >> open_flags_at >> ends) ws >>= λ x. Ok (meaning (create_path x.0 x.1.0 x.1.1.0))
-
-unfoldable pub mem_fd_at : List (List ℕ) → Result Request Fault
-mem_fd_at ws = (open_flags_at >> ends) ws >>= λ x. Ok (meaning (mem_fd x.0))
-
-unfoldable pub event_fd_at : List (List ℕ) → Result Request Fault
-event_fd_at ws = (number_at >> open_flags_at >> ends) ws >>= λ x. Ok (meaning (event_fd x.0 x.1.0))
-
-unfoldable pub pipe_at : List (List ℕ) → Result Request Fault
-pipe_at ws = (open_flags_at >> ends) ws >>= λ x. Ok (meaning (pipe x.0))
-
-unfoldable pub read_at : List (List ℕ) → Result Request Fault
-read_at ws = (number_at >> number_at >> ends) ws >>= λ x. Ok (meaning (read_fd x.0 x.1.0))
-
-unfoldable pub write_at : List (List ℕ) → Result Request Fault
-write_at ws = (number_at >> hex_at >> ends) ws >>= λ x. Ok (meaning (write_fd x.0 x.1.0))
-
-unfoldable pub lseek_at : List (List ℕ) → Result Request Fault
-lseek_at ws = (number_at >> offset_at >> whence_at >> ends) ws >>= λ x. Ok (meaning (seek x.0 x.1.0 x.1.1.0))
-
-unfoldable pub dup_at : List (List ℕ) → Result Request Fault
-dup_at ws = (number_at >> ends) ws >>= λ x. Ok (meaning (dup_fd x.0))
-
-unfoldable pub dup2_at : List (List ℕ) → Result Request Fault
-dup2_at ws = (number_at >> number_at >> ends) ws >>= λ x. Ok (meaning (dup_onto x.0 x.1.0))
-
-unfoldable pub dup_from_at : List (List ℕ) → Result Request Fault
-dup_from_at ws = (number_at >> number_at >> ends) ws >>= λ x. Ok (meaning (dup_above x.0 x.1.0))
-
-unfoldable pub get_flags_at : List (List ℕ) → Result Request Fault
-get_flags_at ws = (number_at >> ends) ws >>= λ x. Ok (meaning (get_flags x.0))
-
-unfoldable pub set_flags_at : List (List ℕ) → Result Request Fault
-set_flags_at ws = (number_at >> open_flags_at >> ends) ws >>= λ x. Ok (meaning (set_flags x.0 x.1.0))
-
-unfoldable pub close_at : List (List ℕ) → Result Request Fault
-close_at ws = (number_at >> ends) ws >>= λ x. Ok (meaning (close x.0))
-
-unfoldable pub unlink_at : List (List ℕ) → Result Request Fault
-unlink_at ws = (path_at >> ends) ws >>= λ x. Ok (meaning (unlink_path x.0))
-
-unfoldable pub socket_at : List (List ℕ) → Result Request Fault
-socket_at ws = (type_at >> open_flags_at >> ends) ws >>= λ x. Ok (meaning (socket x.0 x.1.0))
-
-unfoldable pub pair_at : List (List ℕ) → Result Request Fault
-pair_at ws = (type_at >> open_flags_at >> ends) ws >>= λ x. Ok (meaning (pair x.0 x.1.0))
-
-unfoldable pub bind_at : List (List ℕ) → Result Request Fault
-bind_at ws = (number_at >> addr_at >> ends) ws >>= λ x. Ok (meaning (bind x.0 x.1.0))
-
-unfoldable pub listen_at : List (List ℕ) → Result Request Fault
-listen_at ws = (number_at >> backlog_at >> ends) ws >>= λ x. Ok (meaning (listen x.0 x.1.0))
-
-unfoldable pub connect_at : List (List ℕ) → Result Request Fault
-connect_at ws = (number_at >> addr_at >> ends) ws >>= λ x. Ok (meaning (connect x.0 x.1.0))
-
-unfoldable pub accept_at : List (List ℕ) → Result Request Fault
-accept_at ws = (number_at >> open_flags_at >> ends) ws >>= λ x. Ok (meaning (accept x.0 x.1.0))
-
-unfoldable pub shut_at : List (List ℕ) → Result Request Fault
-shut_at ws = (number_at >> mode_at >> ends) ws >>= λ x. Ok (meaning (shut x.0 x.1.0))
-
-unfoldable pub get_opt_at : List (List ℕ) → Result Request Fault
-get_opt_at ws = (number_at >> option_at >> ends) ws >>= λ x. Ok (meaning (get_opt x.0 x.1.0))
-
-unfoldable pub set_opt_at : List (List ℕ) → Result Request Fault
-set_opt_at ws = (number_at >> option_at >> number_at >> ends) ws >>= λ x. Ok (meaning (set_opt x.0 x.1.0 x.1.1.0))
-
-unfoldable pub sock_name_at : List (List ℕ) → Result Request Fault
-sock_name_at ws = (number_at >> ends) ws >>= λ x. Ok (meaning (sock_name x.0))
-
-unfoldable pub peer_name_at : List (List ℕ) → Result Request Fault
-peer_name_at ws = (number_at >> ends) ws >>= λ x. Ok (meaning (peer_name x.0))
-
-unfoldable pub send_at : List (List ℕ) → Result Request Fault
-send_at ws =
-    (number_at >> addr_or_dash_at >> hex_at >> control_at >> msg_flags_at >> ends) ws
-    >>= λ x. Ok (meaning (send x.0 x.1.0 x.1.1.0 x.1.1.1.0 x.1.1.1.1.0))
-
-unfoldable pub recv_at : List (List ℕ) → Result Request Fault
-recv_at ws = (number_at >> number_at >> number_at >> msg_flags_at >> ends) ws >>= λ x. Ok (meaning (recv x.0 x.1.0 x.1.1.0 x.1.1.1.0))
-
-unfoldable pub poll_at : List (List ℕ) → Result Request Fault
-poll_at ws = (number_at >> ends) ws >>= λ x. Ok (meaning (poll x.0))
-
-unfoldable pub set_ids_at : List (List ℕ) → Result Request Fault
-set_ids_at ws = (number_at >> number_at >> ends) ws >>= λ x. Ok (meaning (set_ids x.0 x.1.0))
-
-unfoldable pub fork_at : List (List ℕ) → Result Request Fault
-fork_at ws = ends ws >>= λ x. Ok (meaning fork)
-
-unfoldable pub exec_at : List (List ℕ) → Result Request Fault
-exec_at ws = ends ws >>= λ x. Ok (meaning exec)
-
-unfoldable pub exit_at : List (List ℕ) → Result Request Fault
-exit_at ws = ends ws >>= λ x. Ok (meaning exit)
-
--- the words of calls: `off` is none
-abbrev pub all_words : List CallWord
-all_words =
-    CallWord.Open ∷ CallWord.Create ∷ CallWord.MemFd ∷ CallWord.EventFd ∷ CallWord.Pipe ∷ CallWord.Read ∷ CallWord.Write ∷ CallWord.Lseek
-    ∷ CallWord.Dup ∷ CallWord.Dup2 ∷ CallWord.DupFrom ∷ CallWord.GetFlags ∷ CallWord.Flags ∷ CallWord.Close
-    ∷ CallWord.Unlink ∷ CallWord.Socket ∷ CallWord.Pair ∷ CallWord.Bind ∷ CallWord.Listen ∷ CallWord.Connect ∷ CallWord.Accept
-    ∷ CallWord.Shut ∷ CallWord.GetOpt ∷ CallWord.SetOpt ∷ CallWord.SockName ∷ CallWord.PeerName ∷ CallWord.Send ∷ CallWord.Recv
-    ∷ CallWord.Poll ∷ CallWord.SetIds ∷ CallWord.Fork ∷ CallWord.Exec ∷ CallWord.Exit ∷ []
+-- one word for each field
+abbrev pub values_at : (kinds : List FieldKind) → List (List ℕ) → Result (WrittenRow kinds) Fault
+values_at [] ws = ends ws
+values_at (kind ∷ kinds) ws = (value_at kind >> values_at kinds) ws
 
 unfoldable pub word_at : List ℕ → Result CallWord Fault
-word_at w = chosen_at word_text all_words w
+word_at w = chosen_at word_text script_words w
+
+-- the call of a word whose fields are these words
+abbrev pub called_at : CallWord → List (List ℕ) → Result Request Fault
+called_at word ws = values_at (kinds word) ws >>= λ row. Ok (request_of word (meant_row (kinds word) row))
 
 abbrev pub args_at : CallWord → List (List ℕ) → Result Request Fault
-args_at CallWord.Open ws = open_at ws
-args_at CallWord.Create ws = create_at ws
-args_at CallWord.MemFd ws = mem_fd_at ws
-args_at CallWord.EventFd ws = event_fd_at ws
-args_at CallWord.Pipe ws = pipe_at ws
-args_at CallWord.Read ws = read_at ws
-args_at CallWord.Write ws = write_at ws
-args_at CallWord.Lseek ws = lseek_at ws
-args_at CallWord.Dup ws = dup_at ws
-args_at CallWord.Dup2 ws = dup2_at ws
-args_at CallWord.DupFrom ws = dup_from_at ws
-args_at CallWord.GetFlags ws = get_flags_at ws
-args_at CallWord.Flags ws = set_flags_at ws
-args_at CallWord.Close ws = close_at ws
-args_at CallWord.Unlink ws = unlink_at ws
-args_at CallWord.Socket ws = socket_at ws
-args_at CallWord.Pair ws = pair_at ws
-args_at CallWord.Bind ws = bind_at ws
-args_at CallWord.Listen ws = listen_at ws
-args_at CallWord.Connect ws = connect_at ws
-args_at CallWord.Accept ws = accept_at ws
-args_at CallWord.Shut ws = shut_at ws
-args_at CallWord.GetOpt ws = get_opt_at ws
-args_at CallWord.SetOpt ws = set_opt_at ws
-args_at CallWord.SockName ws = sock_name_at ws
-args_at CallWord.PeerName ws = peer_name_at ws
-args_at CallWord.Send ws = send_at ws
-args_at CallWord.Recv ws = recv_at ws
-args_at CallWord.Poll ws = poll_at ws
-args_at CallWord.SetIds ws = set_ids_at ws
-args_at CallWord.Fork ws = fork_at ws
-args_at CallWord.Exec ws = exec_at ws
-args_at CallWord.Exit ws = exit_at ws
 args_at CallWord.Off ws = Err BadLine
+args_at word ws = called_at word ws
 
 -- ---- the header
 

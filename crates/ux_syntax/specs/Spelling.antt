@@ -4,8 +4,11 @@ use Rattle.std.specs.Prelude.{replicate, map, filter, count_by, codes, decimal, 
 use Rattle.std.specs.Prelude.{not, slice_index_or}
 use Rattle.std.specs.List.{AllByRecursion, slice_split, join_with_byte}
 use Rattle.std.specs.Fmt.{signed_decimal}
-use Rattle.ux_model.specs.Types.{Cred, Name, Addr, OpenFlags, MsgFlags, SockType, SockOpt, Mode, Whence, ProcSpec, Request}
-use Rattle.ux_model.specs.Process.{fd_of}
+use Rattle.ux_model.specs.Types.{Cred, Addr, OpenFlags, MsgFlags, ProcSpec, Request}
+use Rattle.ux_fields.specs.declared.CallWord.{CallWord}
+use Rattle.ux_fields.specs.declared.FieldKind.{FieldKind}
+use Rattle.ux_fields.specs.Forms.{word_text, request_word, kinds, wants_serial, is_off_word}
+use Rattle.ux_fields.specs.Rows.{Value, Row, request_of}
 use Rattle.ux_model.specs.Limits.{made_limit}
 pub use Rattle.ux_model.specs.History.{is_exit, is_off, is_fork}
 use Rattle.ux_object.specs.declared.ObjKind.{ObjKind}
@@ -20,7 +23,7 @@ use Rattle.ux_syntax.specs.Lines.{Line}
 use Rattle.ux_syntax.specs.declared.script.Script.{Script}
 pub use Rattle.ux_trace.specs.Echoes.{letter, or_dash, open_flags, msg_flags, type_text, option_text, mode_text, whence_text}
 use Rattle.ux_syntax.specs.Text.{plain_line}
-use Rattle.ux_trace.specs.Trace.{dash, hex, path_text, addr_text, addr_or_dash, raw_text, rights_text, cred_text, word_text, request_word}
+use Rattle.ux_trace.specs.Trace.{dash, hex, path_text, addr_text, addr_or_dash, raw_text, rights_text, cred_text}
 
 -- ---- what a script says
 
@@ -63,76 +66,32 @@ control_buffer (ControlWord.Credentials cred) = control_bytes (Some cred) []
 control_buffer (ControlWord.CredentialsFirst cred numbers) = control_bytes (Some cred) numbers
 control_buffer (ControlWord.RightsFirst numbers cred) = padded (control_bytes None numbers) ++ control_bytes (Some cred) []
 
-pub data Written : Type 0 where
-  open_path : (path : Name) → (mode : Mode) → (flags : OpenFlags) → Written
-  create_path : (path : Name) → (mode : Mode) → (flags : OpenFlags) → Written
-  mem_fd : (flags : OpenFlags) → Written
-  event_fd : (value : ℕ) → (flags : OpenFlags) → Written
-  pipe : (flags : OpenFlags) → Written
-  read_fd : (fd n : ℕ) → Written
-  write_fd : (fd : ℕ) → (bytes : List ℕ) → Written
-  seek : (fd : ℕ) → (offset : ℤ) → (whence : Whence) → Written
-  dup_fd : (fd : ℕ) → Written
-  dup_onto : (fd other : ℕ) → Written
-  dup_above : (fd minimum : ℕ) → Written
-  get_flags : (fd : ℕ) → Written
-  set_flags : (fd : ℕ) → (flags : OpenFlags) → Written
-  close : (fd : ℕ) → Written
-  unlink_path : (path : Name) → Written
-  socket : (kind : SockType) → (flags : OpenFlags) → Written
-  pair : (kind : SockType) → (flags : OpenFlags) → Written
-  bind : (fd : ℕ) → (addr : Addr) → Written
-  listen : (fd : ℕ) → (backlog : ℤ) → Written
-  connect : (fd : ℕ) → (addr : Addr) → Written
-  accept : (fd : ℕ) → (flags : OpenFlags) → Written
-  shut : (fd : ℕ) → (how : Mode) → Written
-  get_opt : (fd : ℕ) → (opt : SockOpt) → Written
-  set_opt : (fd : ℕ) → (opt : SockOpt) → (value : ℕ) → Written
-  sock_name : (fd : ℕ) → Written
-  peer_name : (fd : ℕ) → Written
-  send : (fd : ℕ) → (addr : Option Addr) → (bytes : List ℕ) → (control : ControlWord) → (flags : MsgFlags) → Written
-  recv : (fd n space : ℕ) → (flags : MsgFlags) → Written
-  poll : (fd : ℕ) → Written
-  set_ids : (uid gid : ℕ) → Written
-  fork : Written
-  exec : Written
-  exit : Written
+-- a field as it is written: of control data, by which items
+abbrev pub WrittenValue : FieldKind → Type 0
+WrittenValue FieldKind.Control = ControlWord
+WrittenValue kind = Value kind
+
+abbrev pub WrittenRow : List FieldKind → Type 0
+WrittenRow [] = Unit {0}
+WrittenRow (kind ∷ kinds) = WrittenValue kind × WrittenRow kinds
+
+-- a call as it is written: its word, and its fields
+pub record Written : Type 0 where
+  pub word : CallWord
+  pub fields : WrittenRow (kinds word)
+
+-- the value that is meant
+abbrev pub meant : (kind : FieldKind) → WrittenValue kind → Value kind
+meant FieldKind.Control word = control_buffer word
+meant kind value = value
+
+abbrev pub meant_row : (kinds : List FieldKind) → WrittenRow kinds → Row kinds
+meant_row [] row = tt
+meant_row (kind ∷ kinds) row = (meant kind row.0, meant_row kinds row.1)
 
 -- the call that is meant
 abbrev pub meaning : Written → Request
-meaning (open_path path mode flags) = Request.Open path mode flags
-meaning (create_path path mode flags) = Request.Create path mode flags
-meaning (mem_fd flags) = Request.MemFd flags
-meaning (event_fd value flags) = Request.EventFd value flags
-meaning (pipe flags) = Request.Pipe flags
-meaning (read_fd fd n) = Request.Read (fd_of fd) n
-meaning (write_fd fd bytes) = Request.Write (fd_of fd) bytes
-meaning (seek fd offset whence) = Request.Lseek (fd_of fd) offset whence
-meaning (dup_fd fd) = Request.Dup (fd_of fd)
-meaning (dup_onto fd other) = Request.Dup2 (fd_of fd) (fd_of other)
-meaning (dup_above fd minimum) = Request.DupFrom (fd_of fd) (fd_of minimum)
-meaning (get_flags fd) = Request.GetFlags (fd_of fd)
-meaning (set_flags fd flags) = Request.SetFlags (fd_of fd) flags
-meaning (close fd) = Request.Close (fd_of fd)
-meaning (unlink_path path) = Request.Unlink path
-meaning (socket kind flags) = Request.Socket kind flags
-meaning (pair kind flags) = Request.SocketPair kind flags
-meaning (bind fd addr) = Request.Bind (fd_of fd) addr
-meaning (listen fd backlog) = Request.Listen (fd_of fd) backlog
-meaning (connect fd addr) = Request.Connect (fd_of fd) addr
-meaning (accept fd flags) = Request.Accept (fd_of fd) flags
-meaning (shut fd how) = Request.Shutdown (fd_of fd) how
-meaning (get_opt fd opt) = Request.GetOpt (fd_of fd) opt
-meaning (set_opt fd opt value) = Request.SetOpt (fd_of fd) opt value
-meaning (sock_name fd) = Request.GetSockName (fd_of fd)
-meaning (peer_name fd) = Request.GetPeerName (fd_of fd)
-meaning (send fd addr bytes control flags) = Request.SendMsg (fd_of fd) addr bytes (control_buffer control) flags
-meaning (recv fd n space flags) = Request.RecvMsg (fd_of fd) n space flags
-meaning (poll fd) = Request.Poll (fd_of fd)
-meaning (set_ids uid gid) = Request.SetIds uid gid
-meaning fork = Request.Fork
-meaning exec = Request.Exec
-meaning exit = Request.Exit
+meaning c = request_of c.word (meant_row (kinds c.word) c.fields)
 
 -- what a line asks for as it is written: a call, or to wait until a process has so many entries
 pub data Asked : Type 0 where
@@ -169,41 +128,34 @@ kind_text ObjKind.Memory = codes "mem"
 kind_text ObjKind.Counter = codes "counter"
 kind_text ObjKind.Pipe = codes "pipe"
 
+-- the word of a field
+abbrev pub spelling : (kind : FieldKind) → WrittenValue kind → List ℕ
+spelling FieldKind.Fd fd = decimal fd.0
+spelling FieldKind.Number n = decimal n
+spelling FieldKind.Size n = decimal n
+spelling FieldKind.Space n = decimal n
+spelling FieldKind.Value n = decimal n
+spelling FieldKind.Offset z = signed_decimal z
+spelling FieldKind.Backlog z = signed_decimal z
+spelling FieldKind.Path path = path_text path
+spelling FieldKind.Bytes bytes = hex bytes
+spelling FieldKind.Addr addr = addr_text addr
+spelling FieldKind.Target addr = addr_or_dash addr
+spelling FieldKind.Mode mode = mode_text mode
+spelling FieldKind.Whence whence = whence_text whence
+spelling FieldKind.SockType kind = type_text kind
+spelling FieldKind.SockOpt opt = option_text opt
+spelling FieldKind.OpenFlags flags = open_flags flags
+spelling FieldKind.MsgFlags flags = msg_flags flags
+spelling FieldKind.Control word = control_text word
+
+abbrev pub spellings : (kinds : List FieldKind) → WrittenRow kinds → List (List ℕ)
+spellings [] row = []
+spellings (kind ∷ kinds) row = spelling kind row.0 ∷ spellings kinds row.1
+
 -- the words that stand behind the call's word
 abbrev pub args_of : Written → List (List ℕ)
-args_of (open_path path mode flags) = path_text path ∷ mode_text mode ∷ open_flags flags ∷ []
-args_of (create_path path mode flags) = path_text path ∷ mode_text mode ∷ open_flags flags ∷ []
-args_of (mem_fd flags) = open_flags flags ∷ []
-args_of (event_fd value flags) = decimal value ∷ open_flags flags ∷ []
-args_of (pipe flags) = open_flags flags ∷ []
-args_of (read_fd fd n) = decimal fd ∷ decimal n ∷ []
-args_of (write_fd fd bytes) = decimal fd ∷ hex bytes ∷ []
-args_of (seek fd offset whence) = decimal fd ∷ signed_decimal offset ∷ whence_text whence ∷ []
-args_of (dup_fd fd) = decimal fd ∷ []
-args_of (dup_onto fd other) = decimal fd ∷ decimal other ∷ []
-args_of (dup_above fd minimum) = decimal fd ∷ decimal minimum ∷ []
-args_of (get_flags fd) = decimal fd ∷ []
-args_of (set_flags fd flags) = decimal fd ∷ open_flags flags ∷ []
-args_of (close fd) = decimal fd ∷ []
-args_of (unlink_path path) = path_text path ∷ []
-args_of (socket kind flags) = type_text kind ∷ open_flags flags ∷ []
-args_of (pair kind flags) = type_text kind ∷ open_flags flags ∷ []
-args_of (bind fd addr) = decimal fd ∷ addr_text addr ∷ []
-args_of (listen fd backlog) = decimal fd ∷ signed_decimal backlog ∷ []
-args_of (connect fd addr) = decimal fd ∷ addr_text addr ∷ []
-args_of (accept fd flags) = decimal fd ∷ open_flags flags ∷ []
-args_of (shut fd how) = decimal fd ∷ mode_text how ∷ []
-args_of (get_opt fd opt) = decimal fd ∷ option_text opt ∷ []
-args_of (set_opt fd opt value) = decimal fd ∷ option_text opt ∷ decimal value ∷ []
-args_of (sock_name fd) = decimal fd ∷ []
-args_of (peer_name fd) = decimal fd ∷ []
-args_of (send fd addr bytes control flags) = decimal fd ∷ addr_or_dash addr ∷ hex bytes ∷ control_text control ∷ msg_flags flags ∷ []
-args_of (recv fd n space flags) = decimal fd ∷ decimal n ∷ decimal space ∷ msg_flags flags ∷ []
-args_of (poll fd) = decimal fd ∷ []
-args_of (set_ids uid gid) = decimal uid ∷ decimal gid ∷ []
-args_of fork = []
-args_of exec = []
-args_of exit = []
+args_of c = spellings (kinds c.word) c.fields
 
 -- ---- lines
 
@@ -226,7 +178,7 @@ abbrev pub header_line : Header → List ℕ
 header_line h = join_with_byte 32 (header_words h)
 
 abbrev pub asked_words : Asked → List (List ℕ)
-asked_words (call written) = word_text (request_word (meaning written)) ∷ args_of written
+asked_words (call written) = word_text written.word ∷ args_of written
 asked_words (wait pid calls) = codes "wait" ∷ decimal pid ∷ decimal calls ∷ []
 
 abbrev pub turn_words : Turn → List (List ℕ)
@@ -306,40 +258,30 @@ abbrev pub FitsAddrOrDash : Option Addr → Type 0
 FitsAddrOrDash None = Unit {0}
 FitsAddrOrDash (Some addr) = FitsAddr addr
 
+abbrev pub FitsField : (kind : FieldKind) → WrittenValue kind → Type 0
+FitsField FieldKind.Fd fd = IsNumber fd.0
+FitsField FieldKind.Number n = IsNumber n
+FitsField FieldKind.Size n = IsNumber n
+FitsField FieldKind.Space n = IsNumber n
+FitsField FieldKind.Value n = IsNumber n
+FitsField FieldKind.Offset z = IsOffset z
+FitsField FieldKind.Backlog z = IsBacklog z
+FitsField FieldKind.Path path = AreBytes path
+FitsField FieldKind.Bytes bytes = AreBytes bytes
+FitsField FieldKind.Addr addr = FitsAddr addr
+FitsField FieldKind.Target addr = FitsAddrOrDash addr
+FitsField FieldKind.OpenFlags flags = FitsOpenFlags flags
+FitsField FieldKind.MsgFlags flags = FitsMsgFlags flags
+FitsField FieldKind.Control word = FitsControl word
+FitsField kind value = Unit {0}
+
+abbrev pub FitsFields : (kinds : List FieldKind) → WrittenRow kinds → Type 0
+FitsFields [] row = Unit {0}
+FitsFields (kind ∷ kinds) row = FitsField kind row.0 × FitsFields kinds row.1
+
+-- no process calls `off`
 abbrev pub FitsCall : Written → Type 0
-FitsCall (open_path path mode flags) = AreBytes path × FitsOpenFlags flags
-FitsCall (create_path path mode flags) = AreBytes path × FitsOpenFlags flags
-FitsCall (mem_fd flags) = FitsOpenFlags flags
-FitsCall (event_fd value flags) = IsNumber value × FitsOpenFlags flags
-FitsCall (pipe flags) = FitsOpenFlags flags
-FitsCall (read_fd fd n) = IsNumber fd × IsNumber n
-FitsCall (write_fd fd bytes) = IsNumber fd × AreBytes bytes
-FitsCall (seek fd offset whence) = IsNumber fd × IsOffset offset
-FitsCall (dup_fd fd) = IsNumber fd
-FitsCall (dup_onto fd other) = IsNumber fd × IsNumber other
-FitsCall (dup_above fd minimum) = IsNumber fd × IsNumber minimum
-FitsCall (get_flags fd) = IsNumber fd
-FitsCall (set_flags fd flags) = IsNumber fd × FitsOpenFlags flags
-FitsCall (close fd) = IsNumber fd
-FitsCall (unlink_path path) = AreBytes path
-FitsCall (socket kind flags) = FitsOpenFlags flags
-FitsCall (pair kind flags) = FitsOpenFlags flags
-FitsCall (bind fd addr) = IsNumber fd × FitsAddr addr
-FitsCall (listen fd backlog) = IsNumber fd × IsBacklog backlog
-FitsCall (connect fd addr) = IsNumber fd × FitsAddr addr
-FitsCall (accept fd flags) = IsNumber fd × FitsOpenFlags flags
-FitsCall (shut fd how) = IsNumber fd
-FitsCall (get_opt fd opt) = IsNumber fd
-FitsCall (set_opt fd opt value) = IsNumber fd × IsNumber value
-FitsCall (sock_name fd) = IsNumber fd
-FitsCall (peer_name fd) = IsNumber fd
-FitsCall (send fd addr bytes control flags) = IsNumber fd × FitsAddrOrDash addr × AreBytes bytes × FitsControl control × FitsMsgFlags flags
-FitsCall (recv fd n space flags) = IsNumber fd × IsNumber n × IsNumber space × FitsMsgFlags flags
-FitsCall (poll fd) = IsNumber fd
-FitsCall (set_ids uid gid) = IsNumber uid × IsNumber gid
-FitsCall fork = Unit {0}
-FitsCall exec = Unit {0}
-FitsCall exit = Unit {0}
+FitsCall c = (is_off_word c.word ≡ false) × FitsFields (kinds c.word) c.fields
 
 abbrev pub FitsAsked : Asked → Type 0
 FitsAsked (call written) = FitsCall written
@@ -393,17 +335,9 @@ abbrev pub asks_fork : Act → Bool
 asks_fork (Act.Call request) = is_fork request
 asks_fork (Act.Wait pid calls) = false
 
--- a call that programs make which run as they are, and scripts of several orders don't have: those that make a file object, fcntl(2) but
--- for F_SETFL and F_SETFD, and setresuid(2) with setresgid(2)
+-- a call that stands only where the script has one order alone
 abbrev pub is_recorded : Request → Bool
-is_recorded (Request.Create path mode flags) = true
-is_recorded (Request.MemFd flags) = true
-is_recorded (Request.EventFd value flags) = true
-is_recorded (Request.Pipe flags) = true
-is_recorded (Request.DupFrom fd minimum) = true
-is_recorded (Request.GetFlags fd) = true
-is_recorded (Request.SetIds uid gid) = true
-is_recorded _ = false
+is_recorded request = wants_serial (request_word request)
 
 -- what is asked for is such a call
 abbrev pub asks_recorded : Act → Bool

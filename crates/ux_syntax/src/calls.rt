@@ -1,59 +1,22 @@
 //! The calls of a script: the word of each, and the words that stand behind it.
 
 ghost use Rattle.std.specs.Prelude.{◌≡◌, map};
-ghost use Rattle.ux_syntax.specs.Reading.{open_at, create_at, mem_fd_at, event_fd_at, pipe_at, read_at, write_at, lseek_at, dup_at, dup2_at, dup_from_at, get_flags_at, set_flags_at, close_at, unlink_at, socket_at, pair_at, bind_at, listen_at, connect_at, accept_at, shut_at, get_opt_at, set_opt_at, sock_name_at, peer_name_at, send_at, recv_at, poll_at, set_ids_at, fork_at, exec_at, exit_at, word_at, args_at};
+ghost use Rattle.ux_syntax.specs.Reading.{word_at, args_at};
 ghost use Rattle.ux_syntax.specs.Results.{IsAsRead};
 
 use crate::control::ControlWord;
 use crate::fault::{BAD, LineError};
-use crate::row::{end, row_of};
+use crate::row::row_of;
 use std::alloc::Global;
-use ux_trace::CallWord;
-use ux_types::{Fd, Request};
-
-/// The words that a script may have behind a process's number.
-const CALL_WORDS: &[CallWord] = &[
-    CallWord::Open,
-    CallWord::Create,
-    CallWord::MemFd,
-    CallWord::EventFd,
-    CallWord::Pipe,
-    CallWord::Read,
-    CallWord::Write,
-    CallWord::Lseek,
-    CallWord::Dup,
-    CallWord::Dup2,
-    CallWord::DupFrom,
-    CallWord::GetFlags,
-    CallWord::Flags,
-    CallWord::Close,
-    CallWord::Unlink,
-    CallWord::Socket,
-    CallWord::Pair,
-    CallWord::Bind,
-    CallWord::Listen,
-    CallWord::Connect,
-    CallWord::Accept,
-    CallWord::Shut,
-    CallWord::GetOpt,
-    CallWord::SetOpt,
-    CallWord::SockName,
-    CallWord::PeerName,
-    CallWord::Send,
-    CallWord::Recv,
-    CallWord::Poll,
-    CallWord::SetIds,
-    CallWord::Fork,
-    CallWord::Exec,
-    CallWord::Exit,
-];
+use ux_fields::{CallWord, SCRIPT_WORDS};
+use ux_types::Request;
 
 /// The call that a word names.
 #[tactic(auto, unfolding(crate::specs::Reading::word_at))]
 pub(crate) fn word_of(word: &[u8]) -> Result<CallWord, LineError>
     ensures { IsAsRead (λ w. w) result (word_at word.now) }
 {
-    match CALL_WORDS
+    match SCRIPT_WORDS
         .iter()
         .find(|candidate| word == candidate.text().as_bytes())
     {
@@ -62,258 +25,13 @@ pub(crate) fn word_of(word: &[u8]) -> Result<CallWord, LineError>
     }
 }
 
-// ---- the words behind the call's word
-
-/// `open ADDR MODE OFLAGS`.
-#[tactic(auto, unfolding(crate::specs::Reading::open_at))]
-fn open_of(alloc: Global, words: &[&[u8]]) -> Result<Request, LineError>
-    ensures { IsAsRead (λ r. r) result (open_at (map (λ w. w.now) words.now)) }
-{
-    let (path, (mode, (flags, ()))) = row_of(alloc, words)?;
-    Ok(Request::Open { path, mode, flags })
-}
-
-/// `create ADDR MODE OFLAGS`.
-#[tactic(auto, unfolding(crate::specs::Reading::create_at))]
-fn create_of(alloc: Global, words: &[&[u8]]) -> Result<Request, LineError>
-    ensures { IsAsRead (λ r. r) result (create_at (map (λ w. w.now) words.now)) }
-{
-    let (path, (mode, (flags, ()))) = row_of(alloc, words)?;
-    Ok(Request::Create { path, mode, flags })
-}
-
-/// `memfd OFLAGS`.
-#[tactic(auto, unfolding(crate::specs::Reading::mem_fd_at))]
-fn mem_fd_of(alloc: Global, words: &[&[u8]]) -> Result<Request, LineError>
-    ensures { IsAsRead (λ r. r) result (mem_fd_at (map (λ w. w.now) words.now)) }
-{
-    let (flags, ()) = row_of(alloc, words)?;
-    Ok(Request::MemFd { flags })
-}
-
-/// `eventfd VALUE OFLAGS`.
-#[tactic(auto, unfolding(crate::specs::Reading::event_fd_at))]
-fn event_fd_of(alloc: Global, words: &[&[u8]]) -> Result<Request, LineError>
-    ensures { IsAsRead (λ r. r) result (event_fd_at (map (λ w. w.now) words.now)) }
-{
-    let (value, (flags, ())) = row_of(alloc, words)?;
-    Ok(Request::EventFd { value, flags })
-}
-
-/// `pipe OFLAGS`.
-#[tactic(auto, unfolding(crate::specs::Reading::pipe_at))]
-fn pipe_of(alloc: Global, words: &[&[u8]]) -> Result<Request, LineError>
-    ensures { IsAsRead (λ r. r) result (pipe_at (map (λ w. w.now) words.now)) }
-{
-    let (flags, ()) = row_of(alloc, words)?;
-    Ok(Request::Pipe { flags })
-}
-
-/// `read FD N`.
-#[tactic(auto, unfolding(crate::specs::Reading::read_at))]
-fn read_of(alloc: Global, words: &[&[u8]]) -> Result<Request, LineError>
-    ensures { IsAsRead (λ r. r) result (read_at (map (λ w. w.now) words.now)) }
-{
-    let (fd, (n, ())) = row_of(alloc, words)?;
-    Ok(Request::Read { fd: Fd(fd), n })
-}
-
-/// `write FD HEX`.
-#[tactic(auto, unfolding(crate::specs::Reading::write_at))]
-fn write_of(alloc: Global, words: &[&[u8]]) -> Result<Request, LineError>
-    ensures { IsAsRead (λ r. r) result (write_at (map (λ w. w.now) words.now)) }
-{
-    let (fd, (bytes, ())) = row_of(alloc, words)?;
-    Ok(Request::Write { fd: Fd(fd), bytes })
-}
-
-/// `lseek FD OFFSET WHENCE`.
-#[tactic(auto, unfolding(crate::specs::Reading::lseek_at))]
-fn lseek_of(alloc: Global, words: &[&[u8]]) -> Result<Request, LineError>
-    ensures { IsAsRead (λ r. r) result (lseek_at (map (λ w. w.now) words.now)) }
-{
-    let (fd, (offset, (whence, ()))) = row_of(alloc, words)?;
-    Ok(Request::Lseek {
-        fd: Fd(fd),
-        offset,
-        whence,
-    })
-}
-
-/// `dup FD`.
-#[tactic(auto, unfolding(crate::specs::Reading::dup_at))]
-fn dup_of(alloc: Global, words: &[&[u8]]) -> Result<Request, LineError>
-    ensures { IsAsRead (λ r. r) result (dup_at (map (λ w. w.now) words.now)) }
-{
-    let (fd, ()) = row_of(alloc, words)?;
-    Ok(Request::Dup { fd: Fd(fd) })
-}
-
-/// `dup2 FD FD`.
-#[tactic(auto, unfolding(crate::specs::Reading::dup2_at))]
-fn dup2_of(alloc: Global, words: &[&[u8]]) -> Result<Request, LineError>
-    ensures { IsAsRead (λ r. r) result (dup2_at (map (λ w. w.now) words.now)) }
-{
-    let (fd, (to, ())) = row_of(alloc, words)?;
-    Ok(Request::Dup2 {
-        fd: Fd(fd),
-        to: Fd(to),
-    })
-}
-
-/// `dupfd FD MIN`.
-#[tactic(auto, unfolding(crate::specs::Reading::dup_from_at))]
-fn dup_from_of(alloc: Global, words: &[&[u8]]) -> Result<Request, LineError>
-    ensures { IsAsRead (λ r. r) result (dup_from_at (map (λ w. w.now) words.now)) }
-{
-    let (fd, (minimum, ())) = row_of(alloc, words)?;
-    Ok(Request::DupFrom {
-        fd: Fd(fd),
-        minimum: Fd(minimum),
-    })
-}
-
-/// `getfl FD`.
-#[tactic(auto, unfolding(crate::specs::Reading::get_flags_at))]
-fn get_flags_of(alloc: Global, words: &[&[u8]]) -> Result<Request, LineError>
-    ensures { IsAsRead (λ r. r) result (get_flags_at (map (λ w. w.now) words.now)) }
-{
-    let (fd, ()) = row_of(alloc, words)?;
-    Ok(Request::GetFlags { fd: Fd(fd) })
-}
-
-/// `flags FD OFLAGS`.
-#[tactic(auto, unfolding(crate::specs::Reading::set_flags_at))]
-fn set_flags_of(alloc: Global, words: &[&[u8]]) -> Result<Request, LineError>
-    ensures { IsAsRead (λ r. r) result (set_flags_at (map (λ w. w.now) words.now)) }
-{
-    let (fd, (flags, ())) = row_of(alloc, words)?;
-    Ok(Request::SetFlags { fd: Fd(fd), flags })
-}
-
-/// `unlink ADDR`.
-#[tactic(auto, unfolding(crate::specs::Reading::unlink_at))]
-fn unlink_of(alloc: Global, words: &[&[u8]]) -> Result<Request, LineError>
-    ensures { IsAsRead (λ r. r) result (unlink_at (map (λ w. w.now) words.now)) }
-{
-    let (path, ()) = row_of(alloc, words)?;
-    Ok(Request::Unlink { path })
-}
-
-/// `socket TYPE OFLAGS`.
-#[tactic(auto, unfolding(crate::specs::Reading::socket_at))]
-fn socket_of(alloc: Global, words: &[&[u8]]) -> Result<Request, LineError>
-    ensures { IsAsRead (λ r. r) result (socket_at (map (λ w. w.now) words.now)) }
-{
-    let (kind, (flags, ())) = row_of(alloc, words)?;
-    Ok(Request::Socket { kind, flags })
-}
-
-/// `pair TYPE OFLAGS`.
-#[tactic(auto, unfolding(crate::specs::Reading::pair_at))]
-fn pair_of(alloc: Global, words: &[&[u8]]) -> Result<Request, LineError>
-    ensures { IsAsRead (λ r. r) result (pair_at (map (λ w. w.now) words.now)) }
-{
-    let (kind, (flags, ())) = row_of(alloc, words)?;
-    Ok(Request::SocketPair { kind, flags })
-}
-
-/// `bind FD ADDR`.
-#[tactic(auto, unfolding(crate::specs::Reading::bind_at))]
-fn bind_of(alloc: Global, words: &[&[u8]]) -> Result<Request, LineError>
-    ensures { IsAsRead (λ r. r) result (bind_at (map (λ w. w.now) words.now)) }
-{
-    let (fd, (addr, ())) = row_of(alloc, words)?;
-    Ok(Request::Bind { fd: Fd(fd), addr })
-}
-
-/// `listen FD BACKLOG`.
-#[tactic(auto, unfolding(crate::specs::Reading::listen_at))]
-fn listen_of(alloc: Global, words: &[&[u8]]) -> Result<Request, LineError>
-    ensures { IsAsRead (λ r. r) result (listen_at (map (λ w. w.now) words.now)) }
-{
-    let (fd, (backlog, ())) = row_of(alloc, words)?;
-    Ok(Request::Listen {
-        fd: Fd(fd),
-        backlog,
-    })
-}
-
-/// `connect FD ADDR`.
-#[tactic(auto, unfolding(crate::specs::Reading::connect_at))]
-fn connect_of(alloc: Global, words: &[&[u8]]) -> Result<Request, LineError>
-    ensures { IsAsRead (λ r. r) result (connect_at (map (λ w. w.now) words.now)) }
-{
-    let (fd, (addr, ())) = row_of(alloc, words)?;
-    Ok(Request::Connect { fd: Fd(fd), addr })
-}
-
-/// `accept FD OFLAGS`.
-#[tactic(auto, unfolding(crate::specs::Reading::accept_at))]
-fn accept_of(alloc: Global, words: &[&[u8]]) -> Result<Request, LineError>
-    ensures { IsAsRead (λ r. r) result (accept_at (map (λ w. w.now) words.now)) }
-{
-    let (fd, (flags, ())) = row_of(alloc, words)?;
-    Ok(Request::Accept { fd: Fd(fd), flags })
-}
-
-/// `shut FD MODE`.
-#[tactic(auto, unfolding(crate::specs::Reading::shut_at))]
-fn shut_of(alloc: Global, words: &[&[u8]]) -> Result<Request, LineError>
-    ensures { IsAsRead (λ r. r) result (shut_at (map (λ w. w.now) words.now)) }
-{
-    let (fd, (how, ())) = row_of(alloc, words)?;
-    Ok(Request::Shutdown { fd: Fd(fd), how })
-}
-
-/// `getopt FD OPT`.
-#[tactic(auto, unfolding(crate::specs::Reading::get_opt_at))]
-fn get_opt_of(alloc: Global, words: &[&[u8]]) -> Result<Request, LineError>
-    ensures { IsAsRead (λ r. r) result (get_opt_at (map (λ w. w.now) words.now)) }
-{
-    let (fd, (opt, ())) = row_of(alloc, words)?;
-    Ok(Request::GetOpt { fd: Fd(fd), opt })
-}
-
-/// `setopt FD OPT VALUE`.
-#[tactic(auto, unfolding(crate::specs::Reading::set_opt_at))]
-fn set_opt_of(alloc: Global, words: &[&[u8]]) -> Result<Request, LineError>
-    ensures { IsAsRead (λ r. r) result (set_opt_at (map (λ w. w.now) words.now)) }
-{
-    let (fd, (opt, (value, ()))) = row_of(alloc, words)?;
-    Ok(Request::SetOpt {
-        fd: Fd(fd),
-        opt,
-        value,
-    })
-}
-
-/// `sockname FD`.
-#[tactic(auto, unfolding(crate::specs::Reading::sock_name_at))]
-fn sock_name_of(alloc: Global, words: &[&[u8]]) -> Result<Request, LineError>
-    ensures { IsAsRead (λ r. r) result (sock_name_at (map (λ w. w.now) words.now)) }
-{
-    let (fd, ()) = row_of(alloc, words)?;
-    Ok(Request::GetSockName { fd: Fd(fd) })
-}
-
-/// `peername FD`.
-#[tactic(auto, unfolding(crate::specs::Reading::peer_name_at))]
-fn peer_name_of(alloc: Global, words: &[&[u8]]) -> Result<Request, LineError>
-    ensures { IsAsRead (λ r. r) result (peer_name_at (map (λ w. w.now) words.now)) }
-{
-    let (fd, ()) = row_of(alloc, words)?;
-    Ok(Request::GetPeerName { fd: Fd(fd) })
-}
-
 /// `send FD ADDR HEX CONTROL MFLAGS`.
-#[tactic(auto, unfolding(crate::specs::Reading::send_at))]
 fn send_of(alloc: Global, words: &[&[u8]]) -> Result<Request, LineError>
-    ensures { IsAsRead (λ r. r) result (send_at (map (λ w. w.now) words.now)) }
+    ensures { IsAsRead (λ r. r) result (args_at CallWord.Send (map (λ w. w.now) words.now)) }
 {
     let (fd, (addr, (bytes, (control, (flags, ()))))) = row_of(alloc, words)?;
     Ok(Request::SendMsg {
-        fd: Fd(fd),
+        fd,
         addr,
         bytes,
         control: ControlWord::into_buffer(control, alloc)?,
@@ -321,72 +39,18 @@ fn send_of(alloc: Global, words: &[&[u8]]) -> Result<Request, LineError>
     })
 }
 
-/// `recv FD N SPACE MFLAGS`.
-#[tactic(auto, unfolding(crate::specs::Reading::recv_at))]
-fn recv_of(alloc: Global, words: &[&[u8]]) -> Result<Request, LineError>
-    ensures { IsAsRead (λ r. r) result (recv_at (map (λ w. w.now) words.now)) }
-{
-    let (fd, (n, (space, (flags, ())))) = row_of(alloc, words)?;
-    Ok(Request::RecvMsg {
-        fd: Fd(fd),
-        n,
-        space,
-        flags,
-    })
+/// The pattern of a row of these values.
+macro_rules! row {
+    () => { () };
+    ($first:ident $(, $rest:ident)*) => { ($first, row!($($rest),*)) };
 }
 
-/// `poll FD`.
-#[tactic(auto, unfolding(crate::specs::Reading::poll_at))]
-fn poll_of(alloc: Global, words: &[&[u8]]) -> Result<Request, LineError>
-    ensures { IsAsRead (λ r. r) result (poll_at (map (λ w. w.now) words.now)) }
-{
-    let (fd, ()) = row_of(alloc, words)?;
-    Ok(Request::Poll { fd: Fd(fd) })
-}
-
-/// `setids UID GID`.
-#[tactic(auto, unfolding(crate::specs::Reading::set_ids_at))]
-fn set_ids_of(alloc: Global, words: &[&[u8]]) -> Result<Request, LineError>
-    ensures { IsAsRead (λ r. r) result (set_ids_at (map (λ w. w.now) words.now)) }
-{
-    let (uid, (gid, ())) = row_of(alloc, words)?;
-    Ok(Request::SetIds { uid, gid })
-}
-
-/// `close FD`.
-#[tactic(auto, unfolding(crate::specs::Reading::close_at))]
-fn close_of(alloc: Global, words: &[&[u8]]) -> Result<Request, LineError>
-    ensures { IsAsRead (λ r. r) result (close_at (map (λ w. w.now) words.now)) }
-{
-    let (fd, ()) = row_of(alloc, words)?;
-    Ok(Request::Close { fd: Fd(fd) })
-}
-
-/// `fork`.
-#[tactic(auto, unfolding(crate::specs::Reading::fork_at))]
-fn fork_of(words: &[&[u8]]) -> Result<Request, LineError>
-    ensures { IsAsRead (λ r. r) result (fork_at (map (λ w. w.now) words.now)) }
-{
-    end(words)?;
-    Ok(Request::Fork)
-}
-
-/// `exec`.
-#[tactic(auto, unfolding(crate::specs::Reading::exec_at))]
-fn exec_of(words: &[&[u8]]) -> Result<Request, LineError>
-    ensures { IsAsRead (λ r. r) result (exec_at (map (λ w. w.now) words.now)) }
-{
-    end(words)?;
-    Ok(Request::Exec)
-}
-
-/// `exit`.
-#[tactic(auto, unfolding(crate::specs::Reading::exit_at))]
-fn exit_of(words: &[&[u8]]) -> Result<Request, LineError>
-    ensures { IsAsRead (λ r. r) result (exit_at (map (λ w. w.now) words.now)) }
-{
-    end(words)?;
-    Ok(Request::Exit)
+/// The call of this case, whose fields the words of a row spell.
+macro_rules! call {
+    ($alloc:ident, $words:ident, $case:ident $(, $field:ident)*) => {{
+        let row!($($field),*) = row_of($alloc, $words)?;
+        Ok(Request::$case { $($field),* })
+    }};
 }
 
 /// What a call asks for, by its word and the words behind that.
@@ -398,39 +62,39 @@ pub(crate) fn request_of(
     ensures { IsAsRead (λ r. r) result (args_at word (map (λ w. w.now) args.now)) }
 {
     match word {
-        CallWord::Open => open_of(alloc, args),
-        CallWord::Create => create_of(alloc, args),
-        CallWord::MemFd => mem_fd_of(alloc, args),
-        CallWord::EventFd => event_fd_of(alloc, args),
-        CallWord::Pipe => pipe_of(alloc, args),
-        CallWord::Read => read_of(alloc, args),
-        CallWord::Write => write_of(alloc, args),
-        CallWord::Lseek => lseek_of(alloc, args),
-        CallWord::Dup => dup_of(alloc, args),
-        CallWord::Dup2 => dup2_of(alloc, args),
-        CallWord::DupFrom => dup_from_of(alloc, args),
-        CallWord::GetFlags => get_flags_of(alloc, args),
-        CallWord::Flags => set_flags_of(alloc, args),
-        CallWord::Close => close_of(alloc, args),
-        CallWord::Unlink => unlink_of(alloc, args),
-        CallWord::Socket => socket_of(alloc, args),
-        CallWord::Pair => pair_of(alloc, args),
-        CallWord::Bind => bind_of(alloc, args),
-        CallWord::Listen => listen_of(alloc, args),
-        CallWord::Connect => connect_of(alloc, args),
-        CallWord::Accept => accept_of(alloc, args),
-        CallWord::Shut => shut_of(alloc, args),
-        CallWord::GetOpt => get_opt_of(alloc, args),
-        CallWord::SetOpt => set_opt_of(alloc, args),
-        CallWord::SockName => sock_name_of(alloc, args),
-        CallWord::PeerName => peer_name_of(alloc, args),
+        CallWord::Open => call!(alloc, args, Open, path, mode, flags),
+        CallWord::Create => call!(alloc, args, Create, path, mode, flags),
+        CallWord::MemFd => call!(alloc, args, MemFd, flags),
+        CallWord::EventFd => call!(alloc, args, EventFd, value, flags),
+        CallWord::Pipe => call!(alloc, args, Pipe, flags),
+        CallWord::Read => call!(alloc, args, Read, fd, n),
+        CallWord::Write => call!(alloc, args, Write, fd, bytes),
+        CallWord::Lseek => call!(alloc, args, Lseek, fd, offset, whence),
+        CallWord::Dup => call!(alloc, args, Dup, fd),
+        CallWord::Dup2 => call!(alloc, args, Dup2, fd, to),
+        CallWord::DupFrom => call!(alloc, args, DupFrom, fd, minimum),
+        CallWord::GetFlags => call!(alloc, args, GetFlags, fd),
+        CallWord::Flags => call!(alloc, args, SetFlags, fd, flags),
+        CallWord::Close => call!(alloc, args, Close, fd),
+        CallWord::Unlink => call!(alloc, args, Unlink, path),
+        CallWord::Socket => call!(alloc, args, Socket, kind, flags),
+        CallWord::Pair => call!(alloc, args, SocketPair, kind, flags),
+        CallWord::Bind => call!(alloc, args, Bind, fd, addr),
+        CallWord::Listen => call!(alloc, args, Listen, fd, backlog),
+        CallWord::Connect => call!(alloc, args, Connect, fd, addr),
+        CallWord::Accept => call!(alloc, args, Accept, fd, flags),
+        CallWord::Shut => call!(alloc, args, Shutdown, fd, how),
+        CallWord::GetOpt => call!(alloc, args, GetOpt, fd, opt),
+        CallWord::SetOpt => call!(alloc, args, SetOpt, fd, opt, value),
+        CallWord::SockName => call!(alloc, args, GetSockName, fd),
+        CallWord::PeerName => call!(alloc, args, GetPeerName, fd),
         CallWord::Send => send_of(alloc, args),
-        CallWord::Recv => recv_of(alloc, args),
-        CallWord::Poll => poll_of(alloc, args),
-        CallWord::SetIds => set_ids_of(alloc, args),
-        CallWord::Fork => fork_of(args),
-        CallWord::Exec => exec_of(args),
-        CallWord::Exit => exit_of(args),
+        CallWord::Recv => call!(alloc, args, RecvMsg, fd, n, space, flags),
+        CallWord::Poll => call!(alloc, args, Poll, fd),
+        CallWord::SetIds => call!(alloc, args, SetIds, uid, gid),
+        CallWord::Fork => call!(alloc, args, Fork),
+        CallWord::Exec => call!(alloc, args, Exec),
+        CallWord::Exit => call!(alloc, args, Exit),
         CallWord::Off => Err(BAD),
     }
 }

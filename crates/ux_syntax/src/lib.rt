@@ -27,5 +27,5 @@ pub use input::read_script;
 pub use line_reader::LineReader;
 pub use plain::{echoes_are_read, plain_lines_stay};
 pub use reading::{one_script, parse_script};
-pub use script::{Act, Line, ObjectLine, Script};
+pub use script::{Act, Line, ObjectLine, SERIAL_LINE_LIMIT, Script};
 pub use waiting::Waiting;

@@ -4,6 +4,7 @@ ghost use Rattle.std.specs.Prelude.{◌≡◌, if◌then◌else◌};
 ghost use Rattle.ux_syntax.specs.Spelling.{plan_of, known_count, line_limit, asks_exit, asks_fork, asks_recorded};
 
 use std::marker::Model;
+use ux_fields::CallWord;
 use ux_object::ObjKind;
 use ux_types::{Bytes, Name, ObjectLimit, Pid, ProcSpec, Request};
 
@@ -11,7 +12,7 @@ use ux_types::{Bytes, Name, ObjectLimit, Pid, ProcSpec, Request};
 const LINE_LIMIT: usize = 4096;
 
 /// The same behind a line `serial`.
-pub(crate) const SERIAL_LINE_LIMIT: usize = 200_000;
+pub const SERIAL_LINE_LIMIT: usize = 200_000;
 
 /// A file object that is there from the start: its path, its kind, and what a memory file starts with.
 #[derive(Debug, Drop)]
@@ -52,18 +53,10 @@ impl Act {
     pub fn asks_recorded(&self) -> bool
         ensures { result ≡ asks_recorded self.now }
     {
-        matches!(
-            self,
-            Act::Call(
-                Request::Create { .. }
-                    | Request::MemFd { .. }
-                    | Request::EventFd { .. }
-                    | Request::Pipe { .. }
-                    | Request::DupFrom { .. }
-                    | Request::GetFlags { .. }
-                    | Request::SetIds { .. }
-            )
-        )
+        match self {
+            Act::Call(request) => CallWord::of(request).wants_serial(),
+            Act::Wait(..) => false,
+        }
     }
 }
 

@@ -33,9 +33,9 @@ impl Waiting {
 
 /// One process and the line that it waits in.
 #[derive(Clone, Copy)]
-struct Place<'a>(&'a (Pid, usize));
+struct WaitText<'a>(&'a (Pid, usize));
 
-impl fmt::Display for Place<'_> {
+impl fmt::Display for WaitText<'_> {
     ghost output = { λ p. Some (place_text p.0.now) };
 
     fn fmt<W: fmt::Write>(&self, f: &mut fmt::Formatter<W>) -> fmt::Result {
@@ -52,10 +52,10 @@ impl fmt::Display for Waiting {
         let [first, rest @ ..] = self.places.as_slice() else {
             return Ok(());
         };
-        let first = Place(first);
+        let first = WaitText(first);
         write!(f, "{first}")?;
         for further in rest {
-            let place = Place(further);
+            let place = WaitText(further);
             write!(f, ", {place}")?;
         }
         Ok(())

@@ -4,14 +4,14 @@ ghost use Rattle.std.specs.Prelude.{◌≡◌, ◌<◌, ℕ, List, Result, IfOk,
 ghost use Rattle.ux_syntax.specs.declared.fault.Fault.{Fault};
 ghost use Rattle.std.specs.List.{list_all};
 ghost use Rattle.std.specs.Char.{is_ascii_digit};
-ghost use Rattle.ux_syntax.specs.Reading.{is_plain, number_at, without_minus, offset_at, backlog_at, digit_at, pairs_at, hex_at, beside_at, bit_at, mode_at, type_at, option_at, whence_at, kind_at, flag_at, open_flags_at, msg_flags_at};
+ghost use Rattle.ux_syntax.specs.Reading.{is_plain, number_at, fd_at, without_minus, offset_at, backlog_at, digit_at, pairs_at, hex_at, beside_at, bit_at, mode_at, type_at, option_at, whence_at, kind_at, flag_at, open_flags_at, msg_flags_at};
 ghost use Rattle.ux_syntax.specs.Results.{IsAsRead};
 
 use crate::fault::{BAD, LineError};
 use std::alloc::Global;
 use std::str;
 use ux_object::ObjKind;
-use ux_types::{Bytes, Mode, MsgFlags, OpenFlags, SockOpt, SockType, Whence};
+use ux_types::{Bytes, Fd, Mode, MsgFlags, OpenFlags, SockOpt, SockType, Whence};
 
 /// A value that one word spells.
 pub(crate) trait Word: Sized {
@@ -53,6 +53,15 @@ impl Word for u32 {
             Ok(number) => Ok(number),
             Err(_) => Err(BAD),
         }
+    }
+}
+
+/// A descriptor number.
+impl Word for Fd {
+    ghost at = { fd_at };
+
+    fn of(alloc: Global, word: &[u8]) -> Result<Fd, LineError> {
+        Ok(Fd(u32::of(alloc, word)?))
     }
 }
 

@@ -1,7 +1,9 @@
 -- The text of a run beside its script: a line for each entry, with the arguments of its call.
-use Rattle.std.specs.Prelude.{ℕ, Bool, List, [], ◌∷◌, ◌++◌, Option, Some, None, codes, decimal, if◌then◌else◌, ◌==◌, ◌&&◌, not, nat_le}
+use Rattle.std.specs.Prelude.{ℕ, Bool, List, [], ◌∷◌, ◌++◌, Option, Some, None, codes, map, decimal, if◌then◌else◌, ◌==◌, ◌&&◌, not, nat_le}
 use Rattle.std.specs.Fmt.{signed_decimal}
 use Rattle.std.specs.List.{flat_map}
+use Rattle.ux_fields.specs.Rows.{fields_of, FieldValue, fd_field, number_field, size_field, space_field, value_field, offset_field, backlog_field, path_field}
+use Rattle.ux_fields.specs.Rows.{bytes_field, addr_field, target_field, mode_field, whence_field, type_field, option_field, open_flags_field, msg_flags_field, control_field}
 use Rattle.ux_model.specs.Types.{OpenFlags, MsgFlags, SockType, SockOpt, Mode, Whence, Request, Entry}
 use Rattle.ux_model.specs.Control.{Control}
 use Rattle.ux_model.specs.ControlReading.{control_in}
@@ -70,52 +72,39 @@ abbrev pub sent_control : Request → Option Control
 sent_control (Request.SendMsg fd addr bytes control flags) = control_in control
 sent_control request = None
 
--- the arguments in the order of the script's line, where the control bytes of a send read as this
-abbrev pub arguments_telling : Option Control → Request → List (List ℕ)
-arguments_telling read (Request.Open path mode flags) = path_text path ∷ mode_text mode ∷ open_flags flags ∷ []
-arguments_telling read (Request.Create path mode flags) = path_text path ∷ mode_text mode ∷ open_flags flags ∷ []
-arguments_telling read (Request.MemFd flags) = open_flags flags ∷ []
-arguments_telling read (Request.EventFd value flags) = decimal value ∷ open_flags flags ∷ []
-arguments_telling read (Request.Pipe flags) = open_flags flags ∷ []
-arguments_telling read (Request.Read fd n) = decimal fd.0 ∷ decimal n ∷ []
-arguments_telling read (Request.Write fd bytes) = decimal fd.0 ∷ quoted bytes ∷ []
-arguments_telling read (Request.Lseek fd offset whence) = decimal fd.0 ∷ signed_decimal offset ∷ whence_text whence ∷ []
-arguments_telling read (Request.Dup fd) = decimal fd.0 ∷ []
-arguments_telling read (Request.Dup2 fd to) = decimal fd.0 ∷ decimal to.0 ∷ []
-arguments_telling read (Request.DupFrom fd minimum) = decimal fd.0 ∷ decimal minimum.0 ∷ []
-arguments_telling read (Request.GetFlags fd) = decimal fd.0 ∷ []
-arguments_telling read (Request.SetFlags fd flags) = decimal fd.0 ∷ open_flags flags ∷ []
-arguments_telling read (Request.Close fd) = decimal fd.0 ∷ []
-arguments_telling read (Request.Unlink path) = path_text path ∷ []
-arguments_telling read (Request.Socket kind flags) = type_text kind ∷ open_flags flags ∷ []
-arguments_telling read (Request.SocketPair kind flags) = type_text kind ∷ open_flags flags ∷ []
-arguments_telling read (Request.Bind fd addr) = decimal fd.0 ∷ addr_text addr ∷ []
-arguments_telling read (Request.Listen fd backlog) = decimal fd.0 ∷ signed_decimal backlog ∷ []
-arguments_telling read (Request.Connect fd addr) = decimal fd.0 ∷ addr_text addr ∷ []
-arguments_telling read (Request.Accept fd flags) = decimal fd.0 ∷ open_flags flags ∷ []
-arguments_telling read (Request.Shutdown fd how) = decimal fd.0 ∷ mode_text how ∷ []
-arguments_telling read (Request.GetOpt fd opt) = decimal fd.0 ∷ option_text opt ∷ []
-arguments_telling read (Request.SetOpt fd opt value) = decimal fd.0 ∷ option_text opt ∷ decimal value ∷ []
-arguments_telling read (Request.GetSockName fd) = decimal fd.0 ∷ []
-arguments_telling read (Request.GetPeerName fd) = decimal fd.0 ∷ []
-arguments_telling read (Request.SendMsg fd addr bytes control flags) =
-    decimal fd.0 ∷ addr_or_dash addr ∷ quoted bytes ∷ parsed_control_text control read ∷ msg_flags flags ∷ []
-arguments_telling read (Request.RecvMsg fd n space flags) = decimal fd.0 ∷ decimal n ∷ decimal space ∷ msg_flags flags ∷ []
-arguments_telling read (Request.Poll fd) = decimal fd.0 ∷ []
-arguments_telling read (Request.SetIds uid gid) = decimal uid ∷ decimal gid ∷ []
-arguments_telling read Request.Fork = []
-arguments_telling read Request.Exec = []
-arguments_telling read Request.Exit = []
-arguments_telling read Request.Off = []
+-- a field, where the control bytes of a send read as this
+abbrev pub telling : Option Control → FieldValue → List ℕ
+telling read (fd_field it) = decimal it.0
+telling read (number_field it) = decimal it
+telling read (size_field it) = decimal it
+telling read (space_field it) = decimal it
+telling read (value_field it) = decimal it
+telling read (offset_field it) = signed_decimal it
+telling read (backlog_field it) = signed_decimal it
+telling read (path_field it) = path_text it
+telling read (bytes_field it) = quoted it
+telling read (addr_field it) = addr_text it
+telling read (target_field it) = addr_or_dash it
+telling read (mode_field it) = mode_text it
+telling read (whence_field it) = whence_text it
+telling read (type_field it) = type_text it
+telling read (option_field it) = option_text it
+telling read (open_flags_field it) = open_flags it
+telling read (msg_flags_field it) = msg_flags it
+telling read (control_field it) = parsed_control_text it read
+
+-- a comma and a blank, and a text
+abbrev pub after_comma : List ℕ → List ℕ
+after_comma text = codes ", " ++ text
 
 -- texts with a comma and a blank between them, and a bracket at last
 abbrev pub listed : List (List ℕ) → List ℕ
 listed [] = codes ")"
-listed (text ∷ []) = text ++ codes ")"
-listed (text ∷ next ∷ texts) = text ++ (codes ", " ++ listed (next ∷ texts))
+listed (text ∷ texts) = text ++ (flat_map after_comma texts ++ codes ")")
 
+-- the word and the arguments in the order of the script's line, where the control bytes of a send read as this
 abbrev pub call_telling : Option Control → Request → List ℕ
-call_telling read request = word_text (request_word request) ++ (codes "(" ++ listed (arguments_telling read request))
+call_telling read request = word_text (request_word request) ++ (codes "(" ++ listed (map (telling read) (fields_of request)))
 
 -- the call's word, and its arguments between brackets
 abbrev pub call_text : Request → List ℕ

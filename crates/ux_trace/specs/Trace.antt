@@ -3,11 +3,11 @@ use Rattle.std.specs.Prelude.{ℕ, ◌+◌, ◌/◌, ◌%◌, Bool, false, List,
 use Rattle.std.specs.Prelude.{◌==◌, ◌&&◌, not, nat_le}
 use Rattle.std.specs.Fmt.{digit_glyph}
 use Rattle.std.specs.List.{flat_map, join_with_byte}
-use Rattle.ux_model.specs.Types.{Cred, Name, Addr, Errno, MsgFlags, OpenFlags, PollFlags, Request, Reply, Entry}
+use Rattle.ux_model.specs.Types.{Cred, Name, Addr, Errno, MsgFlags, OpenFlags, PollFlags, Reply, Entry}
 use Rattle.ux_model.specs.Control.{Control}
 use Rattle.ux_model.specs.ControlReading.{control_in}
 use Rattle.ux_model.specs.Flags.{has_bits}
-use Rattle.ux_trace.specs.declared.call_word.CallWord.{CallWord}
+pub use Rattle.ux_fields.specs.Forms.{word_text, request_word}
 
 -- no value
 abbrev pub dash : List ℕ
@@ -177,79 +177,6 @@ reply_text (Reply.Err e) = codes "err " ++ errno_text e
 abbrev pub reply_reading : Option Control → Reply → List ℕ
 reply_reading read (Reply.Received flags count bytes control from) = got_text count bytes flags (parsed_control_text control read) from
 reply_reading read reply = reply_text reply
-
--- the word that names a call, in a script and in a trace
-abbrev pub word_text : CallWord → List ℕ
-word_text CallWord.Open = codes "open"
-word_text CallWord.Create = codes "create"
-word_text CallWord.MemFd = codes "memfd"
-word_text CallWord.EventFd = codes "eventfd"
-word_text CallWord.Pipe = codes "pipe"
-word_text CallWord.Read = codes "read"
-word_text CallWord.Write = codes "write"
-word_text CallWord.Lseek = codes "lseek"
-word_text CallWord.Dup = codes "dup"
-word_text CallWord.Dup2 = codes "dup2"
-word_text CallWord.DupFrom = codes "dupfd"
-word_text CallWord.GetFlags = codes "getfl"
-word_text CallWord.Flags = codes "flags"
-word_text CallWord.Close = codes "close"
-word_text CallWord.Unlink = codes "unlink"
-word_text CallWord.Socket = codes "socket"
-word_text CallWord.Pair = codes "pair"
-word_text CallWord.Bind = codes "bind"
-word_text CallWord.Listen = codes "listen"
-word_text CallWord.Connect = codes "connect"
-word_text CallWord.Accept = codes "accept"
-word_text CallWord.Shut = codes "shut"
-word_text CallWord.GetOpt = codes "getopt"
-word_text CallWord.SetOpt = codes "setopt"
-word_text CallWord.SockName = codes "sockname"
-word_text CallWord.PeerName = codes "peername"
-word_text CallWord.Send = codes "send"
-word_text CallWord.Recv = codes "recv"
-word_text CallWord.Poll = codes "poll"
-word_text CallWord.SetIds = codes "setids"
-word_text CallWord.Fork = codes "fork"
-word_text CallWord.Exec = codes "exec"
-word_text CallWord.Exit = codes "exit"
-word_text CallWord.Off = codes "off"
-
-abbrev pub request_word : Request → CallWord
-request_word (Request.Open path mode flags) = CallWord.Open
-request_word (Request.Create path mode flags) = CallWord.Create
-request_word (Request.MemFd flags) = CallWord.MemFd
-request_word (Request.EventFd value flags) = CallWord.EventFd
-request_word (Request.Pipe flags) = CallWord.Pipe
-request_word (Request.Read fd n) = CallWord.Read
-request_word (Request.Write fd bytes) = CallWord.Write
-request_word (Request.Lseek fd offset whence) = CallWord.Lseek
-request_word (Request.Dup fd) = CallWord.Dup
-request_word (Request.Dup2 fd to) = CallWord.Dup2
-request_word (Request.DupFrom fd minimum) = CallWord.DupFrom
-request_word (Request.GetFlags fd) = CallWord.GetFlags
-request_word (Request.SetFlags fd flags) = CallWord.Flags
-request_word (Request.Close fd) = CallWord.Close
-request_word (Request.Unlink path) = CallWord.Unlink
-request_word (Request.Socket kind flags) = CallWord.Socket
-request_word (Request.SocketPair kind flags) = CallWord.Pair
-request_word (Request.Bind fd addr) = CallWord.Bind
-request_word (Request.Listen fd backlog) = CallWord.Listen
-request_word (Request.Connect fd addr) = CallWord.Connect
-request_word (Request.Accept fd flags) = CallWord.Accept
-request_word (Request.Shutdown fd how) = CallWord.Shut
-request_word (Request.GetOpt fd opt) = CallWord.GetOpt
-request_word (Request.SetOpt fd opt value) = CallWord.SetOpt
-request_word (Request.GetSockName fd) = CallWord.SockName
-request_word (Request.GetPeerName fd) = CallWord.PeerName
-request_word (Request.SendMsg fd addr bytes control flags) = CallWord.Send
-request_word (Request.RecvMsg fd n space flags) = CallWord.Recv
-request_word (Request.Poll fd) = CallWord.Poll
-request_word (Request.SetIds uid gid) = CallWord.SetIds
-request_word Request.Fork = CallWord.Fork
-request_word Request.Exec = CallWord.Exec
-request_word Request.Exit = CallWord.Exit
-request_word Request.Off = CallWord.Off
 
 -- numbers, each after a blank
 abbrev pub spaced : List ℕ → List ℕ

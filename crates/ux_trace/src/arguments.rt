@@ -1,14 +1,16 @@
 //! The arguments of a call as an echo has them.
 
-ghost use Rattle.std.specs.Prelude.{◌≡◌, IfOk, Some};
-ghost use Rattle.ux_trace.specs.Echoes.{call_telling, call_text, is_shown, quoted};
+ghost use Rattle.std.specs.Prelude.{◌≡◌, IfOk, Some, map};
+ghost use Rattle.std.specs.List.{flat_map};
+ghost use Rattle.ux_fields.specs.Seen.{seen};
+ghost use Rattle.ux_trace.specs.Echoes.{after_comma, call_telling, call_text, is_shown, listed, quoted, telling};
 
-use crate::call_word::CallWord;
 use crate::choices::{MessageLetters, OpenLetters, mode_word, option_word, type_word, whence_word};
 use crate::words::{AddrOrDash, AddrText, NameText, ParsedControl};
 use std::alloc::{AllocError, Global};
 use std::fmt;
 use ux_cmsg::{Control, ControlError, read_control};
+use ux_fields::{CallWord, Field, fields_of};
 use ux_types::Request;
 
 /// Whether a byte stands for itself between quotation marks.
@@ -54,6 +56,93 @@ pub(crate) fn sent_control(alloc: Global, request: &Request) -> Result<Option<Co
     }
 }
 
+/// A field, and what the control bytes of a send read as.
+#[derive(Clone, Copy)]
+struct FieldText<'a> {
+    field: Field<'a>,
+    read: &'a Option<Control>,
+}
+
+impl fmt::Display for FieldText<'_> {
+    ghost output = { λ t. Some (telling t.read.now (seen t.field)) };
+
+    fn fmt<W: fmt::Write>(&self, f: &mut fmt::Formatter<W>) -> fmt::Result {
+        match self.field {
+            Field::Fd(fd) => write!(f, "{}", fd.0),
+            Field::Number(number) => write!(f, "{number}"),
+            Field::Size(size) | Field::Space(size) => write!(f, "{size}"),
+            Field::Value(value) => write!(f, "{value}"),
+            Field::Offset(offset) => write!(f, "{offset}"),
+            Field::Backlog(backlog) => write!(f, "{backlog}"),
+            Field::Path(path) => write!(f, "p:{}", NameText(path.as_bytes())),
+            Field::Bytes(bytes) => write!(f, "{}", Quoted(bytes.as_slice())),
+            Field::Addr(addr) => write!(f, "{}", AddrText(addr)),
+            Field::Target(addr) => write!(f, "{}", AddrOrDash(addr)),
+            Field::Mode(mode) => write!(f, "{}", mode_word(mode)),
+            Field::Whence(whence) => write!(f, "{}", whence_word(whence)),
+            Field::SockType(kind) => write!(f, "{}", type_word(kind)),
+            Field::SockOpt(opt) => write!(f, "{}", option_word(opt)),
+            Field::OpenFlags(flags) => write!(f, "{}", OpenLetters(flags)),
+            Field::MsgFlags(flags) => write!(f, "{}", MessageLetters(flags)),
+            Field::Control(bytes) => {
+                let control = ParsedControl {
+                    bytes: bytes.as_slice(),
+                    read: self.read,
+                };
+                write!(f, "{control}")
+            }
+        }
+    }
+}
+
+/// Fields behind the first: a comma and a blank before each.
+#[derive(Clone, Copy)]
+struct FurtherFields<'a> {
+    fields: &'a [Field<'a>],
+    read: &'a Option<Control>,
+}
+
+impl fmt::Display for FurtherFields<'_> {
+    ghost output = { λ t. Some (flat_map after_comma (map (λ field. telling t.read.now (seen field)) t.fields.now)) };
+
+    fn fmt<W: fmt::Write>(&self, f: &mut fmt::Formatter<W>) -> fmt::Result {
+        for field in self.fields {
+            let text = FieldText {
+                field: *field,
+                read: self.read,
+            };
+            write!(f, ", {text}")?;
+        }
+        Ok(())
+    }
+}
+
+/// Fields with a comma and a blank between them, and a bracket at last.
+#[derive(Clone, Copy)]
+struct ListedFields<'a> {
+    fields: &'a [Field<'a>],
+    read: &'a Option<Control>,
+}
+
+impl fmt::Display for ListedFields<'_> {
+    ghost output = { λ t. Some (listed (map (λ field. telling t.read.now (seen field)) t.fields.now)) };
+
+    fn fmt<W: fmt::Write>(&self, f: &mut fmt::Formatter<W>) -> fmt::Result {
+        let read = self.read;
+        match self.fields {
+            [] => write!(f, ")"),
+            [first, rest @ ..] => {
+                let first = FieldText {
+                    field: *first,
+                    read,
+                };
+                let rest = FurtherFields { fields: rest, read };
+                write!(f, "{first}{rest})")
+            }
+        }
+    }
+}
+
 /// A call with its arguments, and what the control bytes of a send read as.
 #[derive(Clone, Copy)]
 pub(crate) struct CallText<'a> {
@@ -66,83 +155,11 @@ impl fmt::Display for CallText<'_> {
 
     fn fmt<W: fmt::Write>(&self, f: &mut fmt::Formatter<W>) -> fmt::Result {
         let word = CallWord::of(self.request).text();
-        match self.request {
-            Request::Open { path, mode, flags } | Request::Create { path, mode, flags } => {
-                let (path, mode) = (NameText(path.as_bytes()), mode_word(*mode));
-                write!(f, "{word}(p:{path}, {mode}, {})", OpenLetters(*flags))
-            }
-            Request::MemFd { flags } | Request::Pipe { flags } => {
-                write!(f, "{word}({})", OpenLetters(*flags))
-            }
-            Request::EventFd { value, flags } => {
-                write!(f, "{word}({value}, {})", OpenLetters(*flags))
-            }
-            Request::Read { fd, n } => write!(f, "{word}({}, {n})", fd.0),
-            Request::Write { fd, bytes } => {
-                write!(f, "{word}({}, {})", fd.0, Quoted(bytes.as_slice()))
-            }
-            Request::Lseek { fd, offset, whence } => {
-                write!(f, "{word}({}, {offset}, {})", fd.0, whence_word(*whence))
-            }
-            Request::Dup2 { fd, to } | Request::DupFrom { fd, minimum: to } => {
-                write!(f, "{word}({}, {})", fd.0, to.0)
-            }
-            Request::SetFlags { fd, flags } | Request::Accept { fd, flags } => {
-                write!(f, "{word}({}, {})", fd.0, OpenLetters(*flags))
-            }
-            Request::Dup { fd }
-            | Request::GetFlags { fd }
-            | Request::Close { fd }
-            | Request::GetSockName { fd }
-            | Request::GetPeerName { fd }
-            | Request::Poll { fd } => write!(f, "{word}({})", fd.0),
-            Request::Unlink { path } => write!(f, "{word}(p:{})", NameText(path.as_bytes())),
-            Request::Socket { kind, flags } | Request::SocketPair { kind, flags } => {
-                write!(f, "{word}({}, {})", type_word(*kind), OpenLetters(*flags))
-            }
-            Request::Bind { fd, addr } | Request::Connect { fd, addr } => {
-                write!(f, "{word}({}, {})", fd.0, AddrText(addr))
-            }
-            Request::Listen { fd, backlog } => write!(f, "{word}({}, {backlog})", fd.0),
-            Request::Shutdown { fd, how } => write!(f, "{word}({}, {})", fd.0, mode_word(*how)),
-            Request::GetOpt { fd, opt } => write!(f, "{word}({}, {})", fd.0, option_word(*opt)),
-            Request::SetOpt { fd, opt, value } => {
-                write!(f, "{word}({}, {}, {value})", fd.0, option_word(*opt))
-            }
-            Request::SendMsg {
-                fd,
-                addr,
-                bytes,
-                control,
-                flags,
-            } => {
-                let (addr, bytes) = (AddrOrDash(addr), Quoted(bytes.as_slice()));
-                let control = ParsedControl {
-                    bytes: control.as_slice(),
-                    read: self.read,
-                };
-                write!(
-                    f,
-                    "{word}({}, {addr}, {bytes}, {control}, {})",
-                    fd.0,
-                    MessageLetters(*flags)
-                )
-            }
-            Request::RecvMsg {
-                fd,
-                n,
-                space,
-                flags,
-            } => {
-                write!(
-                    f,
-                    "{word}({}, {n}, {space}, {})",
-                    fd.0,
-                    MessageLetters(*flags)
-                )
-            }
-            Request::SetIds { uid, gid } => write!(f, "{word}({uid}, {gid})"),
-            Request::Fork | Request::Exec | Request::Exit | Request::Off => write!(f, "{word}()"),
-        }
+        let fields = fields_of(self.request);
+        let listed = ListedFields {
+            fields: fields.as_slice(),
+            read: self.read,
+        };
+        write!(f, "{word}({listed}")
     }
 }

@@ -4,11 +4,11 @@ ghost use Rattle.std.specs.Prelude.{◌≡◌, IfOk, Some, string_bytes};
 ghost use Rattle.ux_trace.specs.Trace.{spaced, closed_text, entry_line};
 ghost use Rattle.ux_trace.specs.Echoes.{answer};
 
-use crate::call_word::CallWord;
 use crate::reply::{ReplyText, control_of};
 use std::alloc::{AllocError, Global};
 use std::collections::LinkedList;
 use std::fmt;
+use ux_fields::CallWord;
 use ux_types::{Entry, Released};
 
 /// Numbers in a row, a blank before each.

@@ -2,16 +2,15 @@
 #![tactic(auto)]
 
 mod arguments;
-mod call_word;
 mod choices;
 mod echo;
 mod entry;
 mod reply;
 mod words;
 
-pub use call_word::CallWord;
 pub use choices::{mode_word, option_word, type_word, whence_word};
 pub use echo::echo_text;
 pub use entry::{answer_text, entry_text};
 pub use reply::errno_name;
+pub use ux_fields::CallWord;
 pub use words::{AddrText, HexText, NameText, stands};

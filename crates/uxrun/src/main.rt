@@ -11,6 +11,7 @@ mod printing;
 mod progress;
 mod reading;
 mod runs;
+mod several;
 
 use audit::print_audit;
 use clap::Error;
@@ -22,6 +23,7 @@ use orders::{Made, print_orders, run_in_order};
 use printing::{print_comparison, print_run};
 use reading::script_of;
 use runs::{check_script, run_script};
+use several::expect_each;
 use std::io::IsTerminal;
 use std::process::ExitCode;
 use std::random::RandomSource;
@@ -38,7 +40,7 @@ use ux_types::Entry;
 /// The exit status where the command line wasn't understood, as clap has it.
 const NOT_UNDERSTOOD: u8 = 2;
 
-/// Runs the script that was named, and prints its trace to standard output; where it is asked for, compares the
+/// Runs the script that was named, or several; prints its trace to standard output; where it is asked for, compares the
 /// answers, makes the calls once more, and reports how many entries there are, and who came to which descriptor through
 /// whom.
 fn run<
@@ -46,6 +48,9 @@ fn run<
 >(rt: &R, args: &mut Args<'_>, source: &mut Source) -> Result<(), CommandFault> {
     if args.follow {
         return follow_script(rt, args, source);
+    }
+    if let Some(names) = args.several.take() {
+        return expect_each(rt, args, &names);
     }
     let (script, expected) = script_of(rt, args, source)?;
     if script.serial && (args.order.is_some() || args.orders.is_some()) {

@@ -19,7 +19,7 @@ use Rattle.ux_model.specs.Pairing.{make_pair, with_pair, socket_description}
 use Rattle.ux_model.specs.Connecting.{make_socket}
 use Rattle.ux_model.specs.Opening.{open_file, file_description}
 use Rattle.ux_model.specs.Making.{next_object, object_table_full, with_pipe, open_made, make_object, create_file, make_pipe}
-use Rattle.ux_model.specs.Descriptors.{dup, dup2, dup_from, get_flags, set_flags, with_flags}
+use Rattle.ux_model.specs.Descriptors.{dup, dup2, dup_from, set_flags, with_flags}
 use Rattle.ux_model.specs.Users.{no_id, may_become, with_ids, set_ids}
 use Rattle.ux_model.specs.Forking.{fork, exec, child_of}
 use Rattle.ux_model.specs.Closing.{close, exit, off}
@@ -56,10 +56,6 @@ dup_from_did S p tag fd minimum = found Q S p fd _ refuses
   where
     Q : Outcome → Type 0
     Q o = Did S p tag (Request.DupFrom fd minimum) o.reply o.next
-
-pub get_flags_did : (S : State) (p tag : ℕ) (fd : Fd) → Did S p tag (Request.GetFlags fd) (get_flags S p fd).reply (get_flags S p fd).next
-unfolding get_flags
-get_flags_did S p tag fd = found (λ o. Did S p tag (Request.GetFlags fd) o.reply o.next) S p fd _ refuses (λ e D g h. unchanged refl)
 
 pub flags_did : (S : State) (p tag : ℕ) (fd : Fd) (flags : OpenFlags) →
     Did S p tag (Request.SetFlags fd flags) (set_flags S p fd flags).reply (set_flags S p fd flags).next

@@ -12,14 +12,13 @@ use Rattle.ux_model.specs.Socket.{with_reset, with_passcred, with_queue_limit, s
 use Rattle.ux_model.specs.Process.{Process, own_cred, lowest_free, descriptor}
 use Rattle.ux_model.specs.State.{State, process_at, socket_at, table_of}
 use Rattle.ux_model.specs.State.{with_socket_by, with_table}
-use Rattle.ux_model.specs.Outcome.{Outcome, refuse, descriptor_at, find_socket}
+use Rattle.ux_model.specs.Outcome.{Outcome, refuse, find_socket}
 use Rattle.ux_model.specs.Naming.{unlink}
-use Rattle.ux_model.specs.Binding.{same_kind, socket_of_target, look_up, bind_to, bind, get_sock_name, with_name}
+use Rattle.ux_model.specs.Binding.{same_kind, socket_of_target, look_up, bind_to, bind, with_name}
 use Rattle.ux_model.specs.Connecting.{listener_of, listen, connect_to, connect_stream, connect_datagram, connect}
 use Rattle.ux_model.specs.Connecting.{get_peer_name, shutdown}
 use Rattle.ux_model.specs.Accepting.{accept_first, accept, without_first_end, as_accepted, accepted_with}
 use Rattle.ux_model.specs.Options.{tell_cred, tell_option, get_opt, pass_cred_on, may_limit, change_option, set_opt}
-use Rattle.ux_model.specs.Readiness.{poll}
 use Rattle.ux_model.proofs.Changes.Walk.{either, maybe, found_peer}
 use Rattle.ux_model.proofs.Tables.Shows.{by_socket}
 use Rattle.ux_laws.proofs.Parts.{Kept, kept_same, kept_after, kept_table, kept_by, kept_socket, same_target, left_parts}
@@ -58,12 +57,6 @@ bind_did S p tag fd addr = by_socket Q S p fd _ (λ e. refuses)
         (λ b. answers refl (also_kept _ refl (named_kept S d (Addr.Path name))))
     to d (Addr.Abstract name) = either Q (is_some (named name S.abstract_names)) _ _ (λ b. refuses)
         (λ b. answers refl (also_kept _ refl (named_kept S d (Addr.Abstract name))))
-
-pub sock_name_did : (S : State) (p tag : ℕ) (fd : Fd) →
-    Did S p tag (Request.GetSockName fd) (get_sock_name S p fd).reply (get_sock_name S p fd).next
-unfolding get_sock_name
-sock_name_did S p tag fd = by_socket (λ o. Did S p tag (Request.GetSockName fd) o.reply o.next) S p fd _ (λ e. refuses)
-    (λ d s h there. unchanged refl)
 
 pub peer_name_did : (S : State) (p tag : ℕ) (fd : Fd) →
     Did S p tag (Request.GetPeerName fd) (get_peer_name S p fd).reply (get_peer_name S p fd).next
@@ -265,8 +258,3 @@ pub set_opt_did : (S : State) (p tag : ℕ) (fd : Fd) (opt : SockOpt) (value : �
 unfolding set_opt
 set_opt_did S p tag fd opt value = by_socket (λ o. Did S p tag (Request.SetOpt fd opt value) o.reply o.next) S p fd _ (λ e. refuses)
     (λ d s h there. change_did S p tag d s (Request.SetOpt fd opt value) value opt)
-
-pub poll_did : (S : State) (p tag : ℕ) (fd : Fd) → Did S p tag (Request.Poll fd) (poll S p fd).reply (poll S p fd).next
-unfolding poll
-poll_did S p tag fd = maybe (λ o. Did S p tag (Request.Poll fd) o.reply o.next) (descriptor_at S p fd) _ _ (unchanged refl)
-    (λ e h. unchanged refl)

@@ -23,13 +23,13 @@ use Rattle.ux_model.specs.State.{with_socket_by, with_process, with_table, with_
 use Rattle.ux_model.specs.Outcome.{Outcome}
 use Rattle.ux_model.specs.Naming.{unlink}
 use Rattle.ux_model.specs.Pairing.{make_pair, with_pair, socket_description}
-use Rattle.ux_model.specs.Binding.{look_up, bind_to, bind, get_sock_name, with_name}
+use Rattle.ux_model.specs.Binding.{look_up, bind_to, bind, with_name}
 use Rattle.ux_model.specs.Connecting.{make_socket, listener_of, with_listening, listen, connect_to, connect_stream, connect_datagram}
 use Rattle.ux_model.specs.Connecting.{connect, get_peer_name, shutdown, server_end, tied as tied_by, no_open_flags}
 use Rattle.ux_model.specs.Making.{next_object, object_table_full, with_made, with_pipe, open_made, make_object, create_file, make_pipe}
 use Rattle.ux_model.specs.Accepting.{accept_first, accept, without_first_end, as_accepted, accepted_with}
 use Rattle.ux_model.specs.Opening.{open_file, file_description}
-use Rattle.ux_model.specs.Descriptors.{dup, dup2, dup_from, get_flags, set_flags, with_flags}
+use Rattle.ux_model.specs.Descriptors.{dup, dup2, dup_from, set_flags, with_flags}
 use Rattle.ux_model.specs.Users.{no_id, may_become, set_ids}
 use Rattle.ux_model.specs.Forking.{fork, exec}
 use Rattle.ux_model.specs.Closing.{close, exit, off}
@@ -66,10 +66,6 @@ dup_from_near S p fd minimum = found Q S p fd _ still (λ e D g h. either Q (nat
   where
     Q : Outcome → Type 0
     Q o = Near S p (Request.DupFrom fd minimum) o.next
-
-pub get_flags_near : (S : State) (p : ℕ) (fd : Fd) → Near S p (Request.GetFlags fd) (get_flags S p fd).next
-unfolding get_flags
-get_flags_near S p fd = found (λ o. Near S p (Request.GetFlags fd) o.next) S p fd _ still (λ e D g h. still)
 
 pub flags_near : (S : State) (p : ℕ) (fd : Fd) (flags : OpenFlags) → Near S p (Request.SetFlags fd flags) (set_flags S p fd flags).next
 unfolding set_flags
@@ -222,11 +218,6 @@ bind_near S p fd addr = by_own Q S p (Request.Bind fd addr) fd _ (λ e. still)
         (λ b. alike _ refl (called d (Addr.Path name) mine))
     to d mine (Addr.Abstract name) = either Q (is_some (named_in name S.abstract_names)) _ _ (λ b. still)
         (λ b. alike _ refl (called d (Addr.Abstract name) mine))
-
-pub sock_name_near : (S : State) (p : ℕ) (fd : Fd) → Near S p (Request.GetSockName fd) (get_sock_name S p fd).next
-unfolding get_sock_name
-sock_name_near S p fd = by_own (λ o. Near S p (Request.GetSockName fd) o.next) S p (Request.GetSockName fd) fd _ (λ e. still)
-    (λ d s mine there. still)
 
 pub peer_name_near : (S : State) (p : ℕ) (fd : Fd) → Near S p (Request.GetPeerName fd) (get_peer_name S p fd).next
 unfolding get_peer_name

@@ -10,10 +10,9 @@ use Rattle.ux_model.specs.Socket.{tied_socket, with_reset}
 use Rattle.ux_model.specs.Socket.{with_passcred, with_queue_limit}
 use Rattle.ux_model.specs.State.{State}
 use Rattle.ux_model.specs.State.{with_socket_by}
-use Rattle.ux_model.specs.Outcome.{Outcome, descriptor_at}
+use Rattle.ux_model.specs.Outcome.{Outcome}
 use Rattle.ux_model.specs.Binding.{with_name}
 use Rattle.ux_model.specs.Options.{tell_cred, tell_option, get_opt, may_limit, change_option, set_opt}
-use Rattle.ux_model.specs.Readiness.{poll}
 use Rattle.ux_model.specs.Giving.{description_of}
 use Rattle.ux_model.proofs.Changes.Walk.{either, maybe}
 use Rattle.ux_laws.specs.Reach.{held}
@@ -72,7 +71,3 @@ set_opt_near S p fd opt value = by_own Q S p (Request.SetOpt fd opt value) fd _ 
         (λ b. either Q (not (may_limit value)) _ _ (λ c. still)
         (λ c. near_socket S d (with_queue_limit value) still (inl (held fd.0 mine))
         (λ s. (λ h. h, λ elsewhere. refl, λ other h. h, λ set. absurd (false≢true (sym set)), λ apart h. h))))
-
-pub poll_near : (S : State) (p : ℕ) (fd : Fd) → Near S p (Request.Poll fd) (poll S p fd).next
-unfolding poll
-poll_near S p fd = maybe (λ o. Near S p (Request.Poll fd) o.next) (descriptor_at S p fd) _ _ still (λ e h. still)

@@ -9,21 +9,22 @@ use Rattle.ux_model.specs.Limits.{read_limit}
 use Rattle.ux_model.specs.Flags.{can_read, can_write, no_flags}
 use Rattle.ux_model.specs.Object.{Body, View, memory, counter, pipe, ObjectError, would_block, full, invalid, read_body, write_body}
 use Rattle.ux_model.specs.Object.{is_memory, is_pipe, with_body}
-use Rattle.ux_model.specs.Description.{Description, to_object}
-use Rattle.ux_model.specs.Process.{Descriptor}
+use Rattle.ux_model.specs.Description.{Description, to_object, socket_of, socket_in}
+use Rattle.ux_model.specs.Process.{Descriptor, own_cred}
 use Rattle.ux_model.specs.State.{State, process_at, description_at}
 use Rattle.ux_model.specs.Outcome.{Outcome, descriptor_at}
-use Rattle.ux_model.specs.Sending.{flight_limit}
+use Rattle.ux_model.specs.Sending.{flight_limit, sending, message_of}
 use Rattle.ux_model.specs.Receiving.{incoming}
 use Rattle.ux_model.specs.FileObjects.{holds_bytes, is_open_for}
 use Rattle.ux_model.specs.Reading.{read, read_answer, is_short_read}
 use Rattle.ux_model.specs.Writing.{write, write_answer, write_place}
 use Rattle.ux_model.proofs.Changes.Walk.{either, maybe, by_target, found}
+use Rattle.ux_model.proofs.Changes.Reaching.{tables_alone, objects_stay}
+use Rattle.ux_model.proofs.Changes.Obeying.{Call}
+use Rattle.ux_model.proofs.Steps.MessageCalls.{flight_limit_is, from_obeys, receive_obeys}
 use Rattle.ux_model.proofs.Lists.ChangedPlaces.{bool_cases}
 use Rattle.ux_model.proofs.Lists.OnePlace.{same_at, pushed_or_same}
 use Rattle.ux_laws.specs.Files.{body_in, body_at}
-use Rattle.ux_laws.proofs.Touching.Neither.{Alike}
-use Rattle.ux_laws.proofs.Touching.Messages.{from_alike, receive_alike}
 
 -- what a call does to what is in file object o
 pub data Touches (S : State) (p : ℕ) (request : Request) (o : ℕ) (U : State) : Type 0 where
@@ -48,8 +49,10 @@ pushed_touches {S} {p} {request} {U} o new is = ⊎_elim {C = Touches S p reques
     (λ last. made_now (omega (arith, last)))
     (pushed_or_same S.objects (Some new) o)
 
-left_alike : {S : State} {p : ℕ} {request : Request} {o : ℕ} {U : State} → Alike S U → Touches S p request o U
-left_alike {S} {p} {request} {o} {U} a = untouched (same_body S U o a.objects)
+-- what a message leaves as it was
+by_message : {S : State} {p : ℕ} {request : Request} {o : ℕ} (x : Outcome) → Call S x → Touches S p request o x.next
+by_message {S} {p} {request} {o} x obeys =
+    untouched (same_body S x.next o (objects_stay S tables_alone x.next refl refl obeys.reached))
 
 not_false : (b : Bool) → not b ≡ false → b ≡ true
 not_false true h = refl
@@ -78,7 +81,8 @@ read_touches S p fd n o = found Q S p fd _ (untouched refl) (λ e D g h. by_targ
     (λ b. either Q (is_short_read view.body (min read_limit n)) _ _ (λ c. untouched refl)
     (λ c. either Q (holds_bytes view.body && (min read_limit n == 0)) _ _ (λ c. untouched refl)
     (λ c. by_answer k e D view g h t there (not_false (can_read D.mode) b) (read_body view.body D.offset (min read_limit n)) refl)))))
-    (λ s t. left_alike (receive_alike S p e.description s (incoming (min read_limit n) 0 no_flags))))
+    (λ s t. by_message _ (receive_obeys S p e.description s (incoming (min read_limit n) 0 no_flags)
+    (ap socket_in h ∙ ap socket_of t))))
   where
     Q : Outcome → Type 0
     Q x = Touches S p (Request.Read fd n) o x.next
@@ -108,7 +112,9 @@ write_touches S p tag fd bytes o = found Q S p fd _ (untouched refl) (λ e D g h
     (λ b. either Q (holds_bytes view.body && (length bytes == 0)) _ _ (λ c. untouched refl)
     (λ c. either Q (is_pipe view.body && not (is_open_for can_read S k)) _ _ (λ c. untouched refl)
     (λ c. by_answer k e D view g h t there (not_false (can_write D.mode) b) (write_body view.body (write_place D view) bytes))))))
-    (λ s t. maybe Q (process_at S p) _ _ (untouched refl) (λ P here. left_alike (from_alike S (flight_limit P) e.description s None _))))
+    (λ s t. maybe Q (process_at S p) _ _ (untouched refl) (λ P here. by_message _
+    (from_obeys S (flight_limit P) e.description s None (message_of (sending tag p P None bytes) (own_cred p P) [])
+    (ap socket_in h ∙ ap socket_of t) (λ sound k gone. refl, flight_limit_is S p P here, omega arith, λ bounded. omega arith)))))
   where
     Q : Outcome → Type 0
     Q x = Touches S p (Request.Write fd bytes) o x.next
@@ -126,51 +132,3 @@ write_touches S p tag fd bytes o = found Q S p fd _ (untouched refl) (λ e D g h
 pub record NamesSame (S U : State) : Type 0 where
   pub paths : U.paths ≡ S.paths
   pub abstracts : U.abstract_names ≡ S.abstract_names
-
-pub same_names : {S U : State} → U.paths ≡ S.paths → U.abstract_names ≡ S.abstract_names → NamesSame S U
-same_names h k = record { paths = h; abstracts = k }
-
-pub alike_names : {S U : State} → Alike S U → NamesSame S U
-alike_names a = record { paths = a.paths; abstracts = a.abstracts }
-
-pub read_paths : (S : State) (p : ℕ) (fd : Fd) (n : ℕ) → NamesSame S (read S p fd n).next
-unfolding read
-read_paths S p fd n = found Q S p fd _ (same_names refl refl) (λ e D g h. by_target Q D.target _ _
-    (λ k t. maybe Q (place S.objects k) _ _ (same_names refl refl)
-    (λ view there. either Q (not (can_read D.mode)) _ _ (λ b. same_names refl refl)
-    (λ b. either Q (is_short_read view.body (min read_limit n)) _ _ (λ c. same_names refl refl)
-    (λ c. either Q (holds_bytes view.body && (min read_limit n == 0)) _ _ (λ c. same_names refl refl)
-    (λ c. by_answer k e D view (read_body view.body D.offset (min read_limit n)))))))
-    (λ s t. alike_names (receive_alike S p e.description s (incoming (min read_limit n) 0 no_flags))))
-  where
-    Q : Outcome → Type 0
-    Q x = NamesSame S x.next
-
-    by_answer : (k : ℕ) (e : Descriptor) (D : Description) (view : View) (r : Result (List ℕ × Body) ObjectError) →
-        Q (read_answer S e.description D k view r)
-    by_answer k e D view (Ok found) = same_names refl refl
-    by_answer k e D view (Err would_block) =
-        either Q (is_pipe view.body && not (is_open_for can_write S k)) _ _ (λ b. same_names refl refl) (λ b. same_names refl refl)
-    by_answer k e D view (Err full) = same_names refl refl
-    by_answer k e D view (Err invalid) = same_names refl refl
-
-pub write_paths : (S : State) (p tag : ℕ) (fd : Fd) (bytes : List ℕ) → NamesSame S (write S p tag fd bytes).next
-unfolding write
-write_paths S p tag fd bytes = found Q S p fd _ (same_names refl refl) (λ e D g h. by_target Q D.target _ _
-    (λ k t. maybe Q (place S.objects k) _ _ (same_names refl refl)
-    (λ view there. either Q (not (can_write D.mode)) _ _ (λ b. same_names refl refl)
-    (λ b. either Q (holds_bytes view.body && (length bytes == 0)) _ _ (λ c. same_names refl refl)
-    (λ c. either Q (is_pipe view.body && not (is_open_for can_read S k)) _ _ (λ c. same_names refl refl)
-    (λ c. by_answer k e D view (write_body view.body (write_place D view) bytes))))))
-    (λ s t. maybe Q (process_at S p) _ _ (same_names refl refl)
-    (λ P here. alike_names (from_alike S (flight_limit P) e.description s None _))))
-  where
-    Q : Outcome → Type 0
-    Q x = NamesSame S x.next
-
-    by_answer : (k : ℕ) (e : Descriptor) (D : Description) (view : View) (r : Result (ℕ × Body) ObjectError) →
-        Q (write_answer S e.description D k view r)
-    by_answer k e D view (Ok made) = same_names refl refl
-    by_answer k e D view (Err would_block) = same_names refl refl
-    by_answer k e D view (Err full) = same_names refl refl
-    by_answer k e D view (Err invalid) = same_names refl refl

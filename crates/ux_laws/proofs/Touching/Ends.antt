@@ -10,7 +10,7 @@ use Rattle.ux_model.specs.Step.{Step, outcome}
 use Rattle.ux_model.proofs.Releasing.ReleaseLaws.{place-map}
 use Rattle.ux_model.proofs.Steps.Calls.{each_obeys}
 use Rattle.ux_laws.specs.Files.{body_in, body_at}
-use Rattle.ux_laws.proofs.Touching.Neither.{FilesAlike, files_alike}
+use Rattle.ux_laws.proofs.Touching.Tables.{FilesAlike, files_alike}
 use Rattle.ux_laws.proofs.Touching.Calls.{Files, each_files, chosen_files}
 
 rounds_alike : (n : ℕ) (S : State) → FilesAlike S (drop_rounds n S)

@@ -11,8 +11,8 @@ use Rattle.ux_model.specs.Opening.{file_description}
 use Rattle.ux_model.specs.Making.{next_object, object_table_full, with_pipe, open_made, make_object, create_file, make_pipe}
 use Rattle.ux_model.proofs.Changes.Walk.{either, maybe}
 use Rattle.ux_model.proofs.Steps.MakingCalls.{made_so}
-use Rattle.ux_laws.proofs.Touching.Neither.{table_alike}
-use Rattle.ux_laws.proofs.Touching.Contents.{Touches, untouched, pushed_touches, NamesSame, same_names}
+use Rattle.ux_laws.proofs.Touching.Tables.{table_alike}
+use Rattle.ux_laws.proofs.Touching.Contents.{Touches, untouched, pushed_touches}
 use Rattle.ux_laws.proofs.Touching.Paths.{NamesNoMore, no_more, new_names}
 
 pub record Makes (S : State) (p : ℕ) (request : Request) (U : State) : Type 0 where
@@ -71,28 +71,3 @@ pipe_makes S p flags = either Q (asks_append flags) _ _ (λ b. nothing_made)
   where
     Q : Outcome → Type 0
     Q o = Makes S p (Request.Pipe flags) o.next
-
--- ---- names
-
--- all but an open that makes a path leave them as they are
-pub object_names : (S : State) (p : ℕ) (unknown : Bool) (body : Body) (flags : OpenFlags) →
-    NamesSame S (make_object S p unknown body flags).next
-unfolding make_object
-object_names S p unknown body flags = either Q unknown _ _ (λ b. same_names refl refl)
-    (λ b. maybe Q (lowest_free (table_of S p)) _ _ (same_names refl refl)
-    (λ n low. either Q (object_table_full S) _ _ (λ c. same_names refl refl)
-    (λ c. let t = table_alike (with_new (made_so S body S.paths) (file_description (next_object S) Mode.Both flags)) p _ in
-    same_names t.paths t.abstracts)))
-  where
-    Q : Outcome → Type 0
-    Q o = NamesSame S o.next
-
-pub pipe_names : (S : State) (p : ℕ) (flags : OpenFlags) → NamesSame S (make_pipe S p flags).next
-unfolding make_pipe
-pipe_names S p flags = either Q (asks_append flags) _ _ (λ b. same_names refl refl)
-    (λ b. maybe Q (two_lowest_free (table_of S p)) _ _ (same_names refl refl)
-    (λ n low. either Q (object_table_full S) _ _ (λ c. same_names refl refl)
-    (λ c. let t = table_alike (with_pipe S flags) p _ in same_names t.paths t.abstracts)))
-  where
-    Q : Outcome → Type 0
-    Q o = NamesSame S o.next

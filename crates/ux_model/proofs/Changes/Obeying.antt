@@ -11,7 +11,7 @@ use Rattle.ux_model.specs.Outcome.{Outcome, refuse}
 use Rattle.ux_model.specs.FileObjects.{or_failing}
 use Rattle.ux_model.specs.Step.{lacks_memory, fails}
 use Rattle.ux_model.specs.Invariants.{OneMoreFailure, LeftByRefusal}
-use Rattle.ux_model.proofs.Changes.Reaching.{May, tables_alone, Reaches, still}
+use Rattle.ux_model.proofs.Changes.Reaching.{May, tables_alone, Reaches, still, wider}
 use Rattle.ux_model.proofs.Changes.HeldOpen.{IsHeldOpen, KeepsObjects, same_objects, held_changed}
 
 -- how often a file object that is there has failed
@@ -26,7 +26,7 @@ FailAlike S T = (o : ℕ) → is_some (place S.objects o) ≡ true → failures 
 abbrev pub tells_choice : Reply → Bool
 tells_choice reply = lacks_memory reply || fails reply
 
-abbrev is_error : Reply → Bool
+abbrev pub is_error : Reply → Bool
 is_error (Reply.Err e) = true
 is_error _ = false
 
@@ -35,6 +35,7 @@ pub record Obeys (S : State) (may : May) (o : Outcome) : Type 0 where
   pub own_reply : tells_choice o.reply ≡ false
   pub refused : (e : Errno) → o.reply ≡ Reply.Err e → LeftByRefusal S e o.next
   pub failed : (T : State) → o.failure ≡ Some T → OneMoreFailure S T × KeepsObjects S T
+  pub fails : (T : State) → o.failure ≡ Some T → may.files ≡ true
   pub reached : Reaches S may o.next
   pub objects : KeepsObjects S o.next
   pub alike : FailAlike S o.next
@@ -46,6 +47,7 @@ refuses {S} {may} {e} own_one left = record {
   own_reply = own_one;
   refused = λ f h. let same : e ≡ f = cc h in subst (λ g. LeftByRefusal S g S) same left;
   failed = λ T h. absurd (cc h);
+  fails = λ T h. absurd (cc h);
   reached = still;
   objects = same_objects S S refl;
   alike = λ n was. refl;
@@ -58,6 +60,7 @@ uses {S} {may} {o} own_one told n kept alike r = record {
   own_reply = own_one;
   refused = λ e h. let one : is_error o.reply ≡ true = ap is_error h in absurd (cc (one, told));
   failed = λ T h. absurd (cc (h, n));
+  fails = λ T h. absurd (cc (h, n));
   reached = r;
   objects = kept;
   alike = alike;
@@ -71,12 +74,13 @@ answers {S} {may} {o} own_one told n same r =
 
 -- a call of a file object may leave what a failure does
 pub may_fail : (S : State) (may : May) (o : ℕ) (view : View) (x : Outcome) → IsHeldOpen S o → place S.objects o ≡ Some view →
-    Obeys S may x → Obeys S may (or_failing S o view x)
-may_fail S may o view x held there obeys =
+    may.files ≡ true → Obeys S may x → Obeys S may (or_failing S o view x)
+may_fail S may o view x held there told obeys =
     record {
       own_reply = obeys.own_reply;
       refused = obeys.refused;
       failed = at_failure (can_fail view);
+      fails = λ T h. told;
       reached = obeys.reached;
       objects =
           obeys.objects;
@@ -100,3 +104,14 @@ Call S = Obeys S tables_alone
 
 pub there_of : (S : State) (d : ℕ) (D : Description) → description_at S d ≡ Some D → is_some (description_at S d) ≡ true
 there_of S d D h = ap is_some h
+
+pub widened : (S : State) (may : May) (o : Outcome) → Call S o → Obeys S may o
+widened S may o obeys = record {
+  own_reply = obeys.own_reply;
+  refused = obeys.refused;
+  failed = obeys.failed;
+  fails = λ T h. let none : false ≡ true = obeys.fails T h in absurd (cc none);
+  reached = wider S may o.next obeys.reached;
+  objects = obeys.objects;
+  alike = obeys.alike;
+}

@@ -1,7 +1,8 @@
 -- What a call may do to a state, part by part: each call's next state comes of its first by such changes. What each of these changes
--- keeps, every call keeps. A call that changes what none of these do brings a further one, which owes a line of `exits_kept` (Living), of
--- `reached_sound` (ReachedSound), of `reached_there` (Closed), of `reached_as_many` (MadeObjects), of `reached_within` (FlightLaws), of
--- `reached_bounded` (StaysBounded) and of `reached_small` (SmallTables).
+-- keeps, every call keeps; and what a call may not change (`May`), it leaves. A call that changes what none of these do brings a further
+-- one, which owes a line of `wider`, `objects_stay`, `paths_stay` and `names_stay` (here), of `exits_kept` (Living), of `reached_sound`
+-- (ReachedSound), of `reached_there` (Closed), of `reached_as_many` (MadeObjects), of `reached_within` (FlightLaws), of `reached_bounded`
+-- (StaysBounded) and of `reached_small` (SmallTables).
 use Rattle.std.proofs.Common.{◌≡◌, ℕ, zero, suc, ◌+◌, ◌≤◌, ◌<◌, ◌==◌, Bool, true, false, cond, if◌then◌else◌, List, [], ◌∷◌, ◌++◌, length}
 use Rattle.std.proofs.Common.{map, set, Option, Some, None, refl, ap, sym, subst, ◌∙◌, arith}
 use Rattle.std.specs.Prelude.{is_some, filter, option_map}
@@ -39,26 +40,49 @@ pub record NamesWhatIsThere (S : State) (old new : List (Option Descriptor)) : T
   pub counts : (d : ℕ) → is_some (description_at S d) ≡ false → table_refs d new ≤ table_refs d old
   pub long : length new ≤ length old
 
--- what a call may change of its process beside the table, or make anew
+-- What a call may change beside descriptions and its process's table. A law on what stays asks for the part that it is about.
 pub record May : Type 0 where
   -- who lives: it may end a process, or make one
   pub lives : Bool
-  -- who it runs as
+  -- who its process runs as
   pub users : Bool
   -- it may make a file object
   pub objects : Bool
+  -- what is in a file object
+  pub files : Bool
+  -- what paths lead to, and which there are
+  pub paths : Bool
+  -- the same of the abstract namespace
+  pub names : Bool
 
 abbrev pub tables_alone : May
-tables_alone = record { lives = false; users = false; objects = false }
+tables_alone = record { lives = false; users = false; objects = false; files = false; paths = false; names = false }
 
 abbrev pub lives_too : May
-lives_too = record { lives = true; users = false; objects = false }
+lives_too = record tables_alone { lives = true }
 
 abbrev pub users_too : May
-users_too = record { lives = false; users = true; objects = false }
+users_too = record tables_alone { users = true }
 
 abbrev pub objects_too : May
-objects_too = record { lives = false; users = false; objects = true }
+objects_too = record tables_alone { objects = true }
+
+-- create makes an object and its path
+abbrev pub files_made : May
+files_made = record tables_alone { objects = true; paths = true }
+
+abbrev pub files_too : May
+files_too = record tables_alone { files = true }
+
+abbrev pub paths_too : May
+paths_too = record tables_alone { paths = true }
+
+abbrev pub names_too : May
+names_too = record tables_alone { names = true }
+
+-- bind gives a name of either kind, and the end of the layer takes all
+abbrev pub bindings_too : May
+bindings_too = record tables_alone { paths = true; names = true }
 
 -- a process stays one of the same user and group, privileged as before
 pub record IsOfSameUser (P Q : Process) : Type 0 where
@@ -131,18 +155,21 @@ pub data Reaches (S : State) (may : May) : State → Type 0 where
       Reaches S may (record T { descriptions = set T.descriptions d x })
   -- a file object that is there changes, and stays open
   object_changed : {T : State} (o : ℕ) (old new : View) → Reaches S may T → place T.objects o ≡ Some old → new.opened ≡ old.opened →
-      Reaches S may (with_object T o new)
+      may.files ≡ true → Reaches S may (with_object T o new)
   -- paths are taken away
-  paths_taken : {T : State} (keep : Name × PathTarget → Bool) → Reaches S may T → Reaches S may (record T { paths = filter keep T.paths })
+  paths_taken : {T : State} (keep : Name × PathTarget → Bool) → Reaches S may T → may.paths ≡ true →
+      Reaches S may (record T { paths = filter keep T.paths })
   -- a path leads to a file object that is there
-  path_made : {T : State} (name : Name) (o : ℕ) → Reaches S may T → is_some (place T.objects o) ≡ true → Reaches S may (with_path T name o)
+  path_made : {T : State} (name : Name) (o : ℕ) → Reaches S may T → is_some (place T.objects o) ≡ true → may.paths ≡ true →
+      Reaches S may (with_path T name o)
   -- a path leads to a socket
-  path_bound : {T : State} (name : Name) (d : ℕ) → Reaches S may T → Reaches S may (record T { paths = T.paths ++ (name, bound d) ∷ [] })
+  path_bound : {T : State} (name : Name) (d : ℕ) → Reaches S may T → may.paths ≡ true →
+      Reaches S may (record T { paths = T.paths ++ (name, bound d) ∷ [] })
   -- a name of the abstract namespace leads to a socket that shows it
   name_bound : {T : State} (name : Name) (d : ℕ) → Reaches S may T → name_in (description_at T d) ≡ Some (Addr.Abstract name) →
-      Reaches S may (record T { abstract_names = T.abstract_names ++ (name, d) ∷ [] })
+      may.names ≡ true → Reaches S may (record T { abstract_names = T.abstract_names ++ (name, d) ∷ [] })
   -- everything goes but the file objects
-  turned_off : {T : State} → Reaches S may T →
+  turned_off : {T : State} → Reaches S may T → may.paths ≡ true → may.names ≡ true →
       Reaches S may (record T {
         descriptions = map (λ D. None) T.descriptions;
         processes = map with_nothing_open T.processes;
@@ -150,6 +177,75 @@ pub data Reaches (S : State) (may : May) : State → Type 0 where
             [];
         abstract_names = [];
       })
+
+-- What changes tables and descriptions alone is allowed to any call.
+pub wider : (S : State) (may : May) (T : State) → Reaches S tables_alone T → Reaches S may T
+wider S may T still = still
+wider S may T (process_changed {T = U} i P Q r h names lives users) =
+    process_changed i P Q (wider S may U r) h names (λ k. lives refl) (λ k. users refl)
+wider S may T (process_forked {T = U} i P r h makes) = absurd (cc makes)
+wider S may T (object_made {T = U} body r makes) = absurd (cc makes)
+wider S may T (description_made {T = U} D r there holds bounds) = description_made D (wider S may U r) there holds bounds
+wider S may T (peers_made {T = U} D E r peers) = peers_made D E (wider S may U r) peers
+wider S may T (connection_made {T = U} d l cred listener_cred s listener r h alone k) =
+    connection_made d l cred listener_cred s listener (wider S may U r) h alone k
+wider S may T (description_changed {T = U} d x r keeps) = description_changed d x (wider S may U r) keeps
+wider S may T (object_changed {T = U} o old new r h same told) = absurd (cc told)
+wider S may T (paths_taken {T = U} keep r told) = absurd (cc told)
+wider S may T (path_made {T = U} name o r there told) = absurd (cc told)
+wider S may T (path_bound {T = U} name d r told) = absurd (cc told)
+wider S may T (name_bound {T = U} name d r shown told) = absurd (cc told)
+wider S may T (turned_off {T = U} r told more) = absurd (cc told)
+
+-- What a call may not change stays.
+pub objects_stay : (S : State) (may : May) (T : State) → may.objects ≡ false → may.files ≡ false → Reaches S may T → T.objects ≡ S.objects
+objects_stay S may T made files still = refl
+objects_stay S may T made files (process_changed {T = U} i P Q r h names lives users) = objects_stay S may U made files r
+objects_stay S may T made files (process_forked {T = U} i P r h makes) = objects_stay S may U made files r
+objects_stay S may T made files (object_made {T = U} body r makes) = absurd (cc (makes, made))
+objects_stay S may T made files (description_made {T = U} D r there holds bounds) = objects_stay S may U made files r
+objects_stay S may T made files (peers_made {T = U} D E r peers) = objects_stay S may U made files r
+objects_stay S may T made files (connection_made {T = U} d l cred listener_cred s listener r h alone k) =
+    objects_stay S may U made files r
+objects_stay S may T made files (description_changed {T = U} d x r keeps) = objects_stay S may U made files r
+objects_stay S may T made files (object_changed {T = U} o old new r h same told) = absurd (cc (told, files))
+objects_stay S may T made files (paths_taken {T = U} keep r told) = objects_stay S may U made files r
+objects_stay S may T made files (path_made {T = U} name o r there told) = objects_stay S may U made files r
+objects_stay S may T made files (path_bound {T = U} name d r told) = objects_stay S may U made files r
+objects_stay S may T made files (name_bound {T = U} name d r shown told) = objects_stay S may U made files r
+objects_stay S may T made files (turned_off {T = U} r told more) = objects_stay S may U made files r
+
+pub paths_stay : (S : State) (may : May) (T : State) → may.paths ≡ false → Reaches S may T → T.paths ≡ S.paths
+paths_stay S may T calm still = refl
+paths_stay S may T calm (process_changed {T = U} i P Q r h names lives users) = paths_stay S may U calm r
+paths_stay S may T calm (process_forked {T = U} i P r h makes) = paths_stay S may U calm r
+paths_stay S may T calm (object_made {T = U} body r makes) = paths_stay S may U calm r
+paths_stay S may T calm (description_made {T = U} D r there holds bounds) = paths_stay S may U calm r
+paths_stay S may T calm (peers_made {T = U} D E r peers) = paths_stay S may U calm r
+paths_stay S may T calm (connection_made {T = U} d l cred listener_cred s listener r h alone k) = paths_stay S may U calm r
+paths_stay S may T calm (description_changed {T = U} d x r keeps) = paths_stay S may U calm r
+paths_stay S may T calm (object_changed {T = U} o old new r h same told) = paths_stay S may U calm r
+paths_stay S may T calm (paths_taken {T = U} keep r told) = absurd (cc (told, calm))
+paths_stay S may T calm (path_made {T = U} name o r there told) = absurd (cc (told, calm))
+paths_stay S may T calm (path_bound {T = U} name d r told) = absurd (cc (told, calm))
+paths_stay S may T calm (name_bound {T = U} name d r shown told) = paths_stay S may U calm r
+paths_stay S may T calm (turned_off {T = U} r told more) = absurd (cc (told, calm))
+
+pub names_stay : (S : State) (may : May) (T : State) → may.names ≡ false → Reaches S may T → T.abstract_names ≡ S.abstract_names
+names_stay S may T calm still = refl
+names_stay S may T calm (process_changed {T = U} i P Q r h names lives users) = names_stay S may U calm r
+names_stay S may T calm (process_forked {T = U} i P r h makes) = names_stay S may U calm r
+names_stay S may T calm (object_made {T = U} body r makes) = names_stay S may U calm r
+names_stay S may T calm (description_made {T = U} D r there holds bounds) = names_stay S may U calm r
+names_stay S may T calm (peers_made {T = U} D E r peers) = names_stay S may U calm r
+names_stay S may T calm (connection_made {T = U} d l cred listener_cred s listener r h alone k) = names_stay S may U calm r
+names_stay S may T calm (description_changed {T = U} d x r keeps) = names_stay S may U calm r
+names_stay S may T calm (object_changed {T = U} o old new r h same told) = names_stay S may U calm r
+names_stay S may T calm (paths_taken {T = U} keep r told) = names_stay S may U calm r
+names_stay S may T calm (path_made {T = U} name o r there told) = names_stay S may U calm r
+names_stay S may T calm (path_bound {T = U} name d r told) = names_stay S may U calm r
+names_stay S may T calm (name_bound {T = U} name d r shown told) = absurd (cc (told, calm))
+names_stay S may T calm (turned_off {T = U} r told more) = absurd (cc (more, calm))
 
 -- ---- tables
 
@@ -345,10 +441,16 @@ with_table_reached {S} {may} T (suc i) table r names = go (slice_get T.processes
 -- what a call may change
 abbrev pub may_change : Request → May
 may_change (Request.SetIds uid gid) = users_too
-may_change (Request.Create path mode flags) = objects_too
+may_change (Request.Create path mode flags) = files_made
 may_change (Request.MemFd flags) = objects_too
 may_change (Request.EventFd value flags) = objects_too
 may_change (Request.Pipe flags) = objects_too
+may_change (Request.Read fd n) = files_too
+may_change (Request.Write fd bytes) = files_too
+may_change (Request.Unlink path) = paths_too
+may_change (Request.Bind fd addr) = bindings_too
+may_change (Request.SetOpt fd opt value) = names_too
+may_change Request.Off = bindings_too
 may_change Request.Exit = lives_too
 may_change Request.Fork = lives_too
 may_change _ = tables_alone

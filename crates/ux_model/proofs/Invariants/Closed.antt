@@ -67,13 +67,13 @@ reached_there S may T (description_made {T = U} D r leads nothing bounds) = reac
 reached_there S may T (peers_made {T = U} D E r peers) = reached_there S may U r
 reached_there S may T (connection_made {T = U} d l cred listener_cred s listener r client free there) = reached_there S may U r
 reached_there S may T (description_changed {T = U} d x r keeps) = reached_there S may U r
-reached_there S may T (object_changed {T = U} n old new r h same) =
+reached_there S may T (object_changed {T = U} n old new r h same told) =
     filled_keeps S.objects U.objects n new (ap is_some h) (reached_there S may U r)
-reached_there S may T (paths_taken {T = U} keep r) = reached_there S may U r
-reached_there S may T (path_made {T = U} name o r there) = reached_there S may U r
-reached_there S may T (path_bound {T = U} name d r) = reached_there S may U r
-reached_there S may T (name_bound {T = U} name d r shown) = reached_there S may U r
-reached_there S may T (turned_off {T = U} r) = reached_there S may U r
+reached_there S may T (paths_taken {T = U} keep r told) = reached_there S may U r
+reached_there S may T (path_made {T = U} name o r there told) = reached_there S may U r
+reached_there S may T (path_bound {T = U} name d r told) = reached_there S may U r
+reached_there S may T (name_bound {T = U} name d r shown told) = reached_there S may U r
+reached_there S may T (turned_off {T = U} r told more) = reached_there S may U r
 
 -- ---- one that is released is no longer there
 

@@ -217,17 +217,17 @@ reached_within K u limit S may T up stay sound w (connection_made {T = U} d l cr
     connected_within K u limit U d l cred listener_cred listener (reached_within K u limit S may U up stay sound w r)
 reached_within K u limit S may T up stay sound w (description_changed {T = U} d x r keeps) =
     changed_place_within K u limit U d x up (keeps sound) (reached_within K u limit S may U up stay sound w r)
-reached_within K u limit S may T up stay sound w (object_changed {T = U} o old new r h same) =
+reached_within K u limit S may T up stay sound w (object_changed {T = U} o old new r h same told) =
     same_within K u limit U _ refl refl (reached_within K u limit S may U up stay sound w r)
-reached_within K u limit S may T up stay sound w (paths_taken {T = U} keep r) =
+reached_within K u limit S may T up stay sound w (paths_taken {T = U} keep r told) =
     same_within K u limit U _ refl refl (reached_within K u limit S may U up stay sound w r)
-reached_within K u limit S may T up stay sound w (path_made {T = U} name o r there) =
+reached_within K u limit S may T up stay sound w (path_made {T = U} name o r there told) =
     same_within K u limit U _ refl refl (reached_within K u limit S may U up stay sound w r)
-reached_within K u limit S may T up stay sound w (path_bound {T = U} name d r) =
+reached_within K u limit S may T up stay sound w (path_bound {T = U} name d r told) =
     same_within K u limit U _ refl refl (reached_within K u limit S may U up stay sound w r)
-reached_within K u limit S may T up stay sound w (name_bound {T = U} name d r shown) =
+reached_within K u limit S may T up stay sound w (name_bound {T = U} name d r shown told) =
     same_within K u limit U _ refl refl (reached_within K u limit S may U up stay sound w r)
-reached_within K u limit S may T up stay sound w (turned_off {T = U} r) =
+reached_within K u limit S may T up stay sound w (turned_off {T = U} r told more) =
     turned_within K u limit U up (reached_within K u limit S may U up stay sound w r)
 
 -- ---- what is released

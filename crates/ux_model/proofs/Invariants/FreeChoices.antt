@@ -2,7 +2,7 @@
 use Rattle.std.proofs.Common.{◌≡◌, ◌⊎◌, inl, inr, ⊎_elim, ℕ, ◌+◌, ◌==◌, Bool, true, false, ◌&&◌, not, if◌then◌else◌, Option, Some}
 use Rattle.std.proofs.Common.{None, refl, ap, sym, subst, ◌∙◌, arith, ◌||◌}
 use Rattle.std.specs.Prelude.{ℤ, pos, negsuc, ◌+ℤ◌, nat_lt, is_some, is_none}
-use Rattle.std.proofs.lemmas.Bool.{cases_eq, or_parts}
+use Rattle.std.proofs.lemmas.Bool.{cases_eq, or_parts, false≢true}
 use Rattle.std.proofs.lemmas.List.{get_or-set_same, get_or-set_other}
 use Rattle.ux_model.specs.Types.{Errno, Fd, Cred, Name, SockOpt, Mode, OpenFlags, Whence, Request, Reply}
 use Rattle.ux_model.specs.Places.{place}
@@ -129,41 +129,22 @@ off_spares S = refl
 -- those that take none
 each_spares : (S : State) (p tag : ℕ) (request : Request) → takes_no_memory request ≡ true → IsSparing (outcome S p tag request)
 unfolding outcome
-each_spares S p tag (Request.Open path mode flags) h = absurd (cc h)
-each_spares S p tag (Request.Create path mode flags) h = absurd (cc h)
-each_spares S p tag (Request.MemFd flags) h = absurd (cc h)
-each_spares S p tag (Request.EventFd value flags) h = absurd (cc h)
-each_spares S p tag (Request.Pipe flags) h = absurd (cc h)
-each_spares S p tag (Request.Read fd n) h = absurd (cc h)
-each_spares S p tag (Request.Write fd bytes) h = absurd (cc h)
 each_spares S p tag (Request.Lseek fd offset whence) h = lseek_spares S p fd offset whence
-each_spares S p tag (Request.Dup fd) h = absurd (cc h)
-each_spares S p tag (Request.Dup2 fd to) h = absurd (cc h)
-each_spares S p tag (Request.DupFrom fd minimum) h = absurd (cc h)
 each_spares S p tag (Request.GetFlags fd) h = get_flags_spare S p fd
 each_spares S p tag (Request.SetFlags fd flags) h = flags_spare S p fd flags
 each_spares S p tag (Request.Close fd) h = close_spares S p fd
 each_spares S p tag (Request.Unlink path) h = unlink_spares S path
-each_spares S p tag (Request.Socket kind flags) h = absurd (cc h)
-each_spares S p tag (Request.SocketPair kind flags) h = absurd (cc h)
-each_spares S p tag (Request.Bind fd addr) h = absurd (cc h)
 each_spares S p tag (Request.Listen fd backlog) h = listen_spares S p fd backlog
-each_spares S p tag (Request.Connect fd addr) h = absurd (cc h)
-each_spares S p tag (Request.Accept fd flags) h = absurd (cc h)
 each_spares S p tag (Request.Shutdown fd how) h = shutdown_spares S p fd how
 each_spares S p tag (Request.GetOpt fd opt) h = get_opt_spares S p fd opt
 each_spares S p tag (Request.SetOpt fd SockOpt.QueueLimit value) h = limit_spares S p fd value
 each_spares S p tag (Request.SetOpt fd opt value) h = absurd (cc h)
-each_spares S p tag (Request.GetSockName fd) h = absurd (cc h)
-each_spares S p tag (Request.GetPeerName fd) h = absurd (cc h)
-each_spares S p tag (Request.SendMsg fd addr bytes control flags) h = absurd (cc h)
-each_spares S p tag (Request.RecvMsg fd n space flags) h = absurd (cc h)
 each_spares S p tag (Request.Poll fd) h = poll_spares S p fd
 each_spares S p tag (Request.SetIds uid gid) h = ids_spare S p uid gid
-each_spares S p tag Request.Fork h = absurd (cc h)
 each_spares S p tag Request.Exec h = exec_spares S p
 each_spares S p tag Request.Exit h = exit_spares S p
 each_spares S p tag Request.Off h = off_spares S
+each_spares S p tag request h = absurd (false≢true h)
 
 -- an outcome's own reply is neither ENOMEM nor EIO
 own_tells : (o : Outcome) → tells_choice o.reply ≡ false → (lacks_memory o.reply ≡ false) × (fails o.reply ≡ false)

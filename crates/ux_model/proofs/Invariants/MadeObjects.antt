@@ -37,13 +37,13 @@ reached_as_many S may calm T (peers_made {T = U} D E r peers) = reached_as_many 
 reached_as_many S may calm T (connection_made {T = U} d l cred listener_cred s listener r client free there) =
     reached_as_many S may calm U r
 reached_as_many S may calm T (description_changed {T = U} d x r keeps) = reached_as_many S may calm U r
-reached_as_many S may calm T (object_changed {T = U} o old new r h same) =
+reached_as_many S may calm T (object_changed {T = U} o old new r h same told) =
     length-set U.objects o (Some new) ∙ reached_as_many S may calm U r
-reached_as_many S may calm T (paths_taken {T = U} keep r) = reached_as_many S may calm U r
-reached_as_many S may calm T (path_made {T = U} name o r there) = reached_as_many S may calm U r
-reached_as_many S may calm T (path_bound {T = U} name d r) = reached_as_many S may calm U r
-reached_as_many S may calm T (name_bound {T = U} name d r shown) = reached_as_many S may calm U r
-reached_as_many S may calm T (turned_off {T = U} r) = reached_as_many S may calm U r
+reached_as_many S may calm T (paths_taken {T = U} keep r told) = reached_as_many S may calm U r
+reached_as_many S may calm T (path_made {T = U} name o r there told) = reached_as_many S may calm U r
+reached_as_many S may calm T (path_bound {T = U} name d r told) = reached_as_many S may calm U r
+reached_as_many S may calm T (name_bound {T = U} name d r shown told) = reached_as_many S may calm U r
+reached_as_many S may calm T (turned_off {T = U} r told more) = reached_as_many S may calm U r
 
 -- ---- calls that make one
 

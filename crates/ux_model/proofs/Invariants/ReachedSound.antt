@@ -28,14 +28,14 @@ reached_sound S may T sound (peers_made {T = U} D E r peers) = peers_sound U D E
 reached_sound S may T sound (connection_made {T = U} d l cred listener_cred s listener r client free there) =
     connection_sound U d l cred listener_cred s listener (reached_sound S may U sound r) client free there
 reached_sound S may T sound (description_changed {T = U} d x r keeps) = place_sound U d x (reached_sound S may U sound r) (keeps sound)
-reached_sound S may T sound (object_changed {T = U} o old new r h same) =
+reached_sound S may T sound (object_changed {T = U} o old new r h same told) =
     let before = reached_sound S may U sound r in same_peers U _ before (object_held U o old new before.held h same) refl
-reached_sound S may T sound (paths_taken {T = U} keep r) =
+reached_sound S may T sound (paths_taken {T = U} keep r told) =
     let before = reached_sound S may U sound r in same_peers U _ before (paths_held U keep before.held) refl
-reached_sound S may T sound (path_made {T = U} name o r there) =
+reached_sound S may T sound (path_made {T = U} name o r there told) =
     let before = reached_sound S may U sound r in same_peers U _ before (new_path_held U name o before.held there) refl
-reached_sound S may T sound (path_bound {T = U} name d r) =
+reached_sound S may T sound (path_bound {T = U} name d r told) =
     let before = reached_sound S may U sound r in same_peers U _ before (path_held U name d before.held) refl
-reached_sound S may T sound (name_bound {T = U} name d r shown) =
+reached_sound S may T sound (name_bound {T = U} name d r shown told) =
     let before = reached_sound S may U sound r in same_peers U _ before (name_held U name d before.held shown) refl
-reached_sound S may T sound (turned_off {T = U} r) = off_sound U (reached_sound S may U sound r)
+reached_sound S may T sound (turned_off {T = U} r told more) = off_sound U (reached_sound S may U sound r)

@@ -10,6 +10,8 @@ use Rattle.ux_model.specs.Description.{Description, Target, to_object, to_socket
 use Rattle.ux_model.specs.State.{State, description_at, with_object, with_socket_by}
 use Rattle.ux_model.specs.References.{leads_to, times, queue_refs, socket_refs, refs, orefs}
 use Rattle.ux_model.specs.Release.{settled}
+use Rattle.ux_model.specs.Asking.{AskingChangesNothing}
+use Rattle.ux_model.proofs.Steps.Asking.{each_asks, chosen_asked}
 use Rattle.ux_model.specs.Step.{Step, outcome}
 use Rattle.ux_model.specs.History.{replay}
 use Rattle.ux_model.specs.Invariants.{OneMoreFailure, ResetCleared, AssociationEnded, LeftByRefusal, RefusalChangesNothing}
@@ -105,3 +107,10 @@ refused_entry_changes_nothing boot before e error legal h =
     refusal_changes_nothing S T e.pid.0 (length before) e.request error e.released
     (stays_settled boot before (legal_before boot before e legal))
     (subst (λ r. Step S e.pid.0 (length before) e.request r e.released T) h may.steps)
+
+pub asking_changes_nothing : AskingChangesNothing
+unfolding Step
+asking_changes_nothing S T p tag request reply gone asking here s =
+    let same : s.0 ≡ S = chosen_asked S s.0 (outcome S p tag request) reply (each_asks S p tag request asking) s.1 in
+    let still : settled s.0 ≡ s.0 = ap settled same ∙ here ∙ sym same in
+    (s.3 ∙ still ∙ same, s.2 ∙ releases_nothing s.0 still)

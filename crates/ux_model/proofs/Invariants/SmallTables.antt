@@ -66,12 +66,12 @@ reached_small S may T sound small (peers_made {T = U} D E r peers) = reached_sma
 reached_small S may T sound small (connection_made {T = U} d l cred listener_cred s listener r here free there) =
     reached_small S may U sound small r
 reached_small S may T sound small (description_changed {T = U} d x r keeps) = reached_small S may U sound small r
-reached_small S may T sound small (object_changed {T = U} o old new r there opened) = reached_small S may U sound small r
-reached_small S may T sound small (paths_taken {T = U} keep r) = reached_small S may U sound small r
-reached_small S may T sound small (path_made {T = U} name o r there) = reached_small S may U sound small r
-reached_small S may T sound small (path_bound {T = U} name d r) = reached_small S may U sound small r
-reached_small S may T sound small (name_bound {T = U} name d r shown) = reached_small S may U sound small r
-reached_small S may T sound small (turned_off {T = U} r) = emptied_small U.processes (reached_small S may U sound small r)
+reached_small S may T sound small (object_changed {T = U} o old new r there opened told) = reached_small S may U sound small r
+reached_small S may T sound small (paths_taken {T = U} keep r told) = reached_small S may U sound small r
+reached_small S may T sound small (path_made {T = U} name o r there told) = reached_small S may U sound small r
+reached_small S may T sound small (path_bound {T = U} name d r told) = reached_small S may U sound small r
+reached_small S may T sound small (name_bound {T = U} name d r shown told) = reached_small S may U sound small r
+reached_small S may T sound small (turned_off {T = U} r told more) = emptied_small U.processes (reached_small S may U sound small r)
 
 settled_small : (S : State) → AreSmall S.processes → AreSmall (settled S).processes
 unfolding settled drop_unreferenced

@@ -94,12 +94,12 @@ reached_bounded S may T sound all (connection_made {T = U} d l cred listener_cre
     connected_bounded U d l cred listener_cred listener there (reached_bounded S may U sound all r)
 reached_bounded S may T sound all (description_changed {T = U} d x r keeps) =
     let before = reached_bounded S may U sound all r in place_bounded U d x before ((keeps sound).bounds before (before d))
-reached_bounded S may T sound all (object_changed {T = U} o old new r h same) = reached_bounded S may U sound all r
-reached_bounded S may T sound all (paths_taken {T = U} keep r) = reached_bounded S may U sound all r
-reached_bounded S may T sound all (path_made {T = U} name o r there) = reached_bounded S may U sound all r
-reached_bounded S may T sound all (path_bound {T = U} name d r) = reached_bounded S may U sound all r
-reached_bounded S may T sound all (name_bound {T = U} name d r shown) = reached_bounded S may U sound all r
-reached_bounded S may T sound all (turned_off {T = U} r) = nothing_bounded U.descriptions
+reached_bounded S may T sound all (object_changed {T = U} o old new r h same told) = reached_bounded S may U sound all r
+reached_bounded S may T sound all (paths_taken {T = U} keep r told) = reached_bounded S may U sound all r
+reached_bounded S may T sound all (path_made {T = U} name o r there told) = reached_bounded S may U sound all r
+reached_bounded S may T sound all (path_bound {T = U} name d r told) = reached_bounded S may U sound all r
+reached_bounded S may T sound all (name_bound {T = U} name d r shown told) = reached_bounded S may U sound all r
+reached_bounded S may T sound all (turned_off {T = U} r told more) = nothing_bounded U.descriptions
 
 -- ---- what is released
 

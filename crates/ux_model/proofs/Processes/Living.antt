@@ -85,12 +85,12 @@ exits_kept S may calm T (description_made {T = U} D r leads nothing bounds) = ex
 exits_kept S may calm T (peers_made {T = U} D E r peers) = exits_kept S may calm U r
 exits_kept S may calm T (connection_made {T = U} d l cred listener_cred s listener r client free there) = exits_kept S may calm U r
 exits_kept S may calm T (description_changed {T = U} d x r keeps) = exits_kept S may calm U r
-exits_kept S may calm T (object_changed {T = U} o old new r h same) = exits_kept S may calm U r
-exits_kept S may calm T (paths_taken {T = U} keep r) = exits_kept S may calm U r
-exits_kept S may calm T (path_made {T = U} name o r there) = exits_kept S may calm U r
-exits_kept S may calm T (path_bound {T = U} name d r) = exits_kept S may calm U r
-exits_kept S may calm T (name_bound {T = U} name d r shown) = exits_kept S may calm U r
-exits_kept S may calm T (turned_off {T = U} r) = exits_turned U.processes ∙ exits_kept S may calm U r
+exits_kept S may calm T (object_changed {T = U} o old new r h same told) = exits_kept S may calm U r
+exits_kept S may calm T (paths_taken {T = U} keep r told) = exits_kept S may calm U r
+exits_kept S may calm T (path_made {T = U} name o r there told) = exits_kept S may calm U r
+exits_kept S may calm T (path_bound {T = U} name d r told) = exits_kept S may calm U r
+exits_kept S may calm T (name_bound {T = U} name d r shown told) = exits_kept S may calm U r
+exits_kept S may calm T (turned_off {T = U} r told more) = exits_turned U.processes ∙ exits_kept S may calm U r
 
 -- an exit ends its process
 set_past : (Ps : List Process) (i : ℕ) → slice_get Ps i ≡ None →

@@ -1,10 +1,9 @@
--- Of each call: that its outcome obeys what all do. One lemma a call, and one line of `each_obeys`, at the end. Those of names and
--- connections
--- stand in NameCalls, those of messages in MessageCalls, those that make file objects in MakingCalls.
+-- Of each call: that its outcome obeys what all do. One lemma a call, and one line of `act_obeys`, at the end. Those that only ask stand in
+-- Asking, those of names and connections in NameCalls, those of messages in MessageCalls, those that make file objects in MakingCalls.
 use Rattle.std.proofs.Common.{◌≡◌, ℕ, suc, ◌<◌, Bool, true, false, not, ◌&&◌, ◌==◌, if◌then◌else◌, cond, List, [], ◌∷◌, length, map}
 use Rattle.std.proofs.Common.{Option, Some, None, Result, Ok, Err, refl, ap, sym, ◌∙◌, subst, arith, ◌||◌}
 use Rattle.std.specs.Prelude.{min, nat_le, nat_lt, ℤ, pos, negsuc, ◌+ℤ◌, is_some, count_by}
-use Rattle.std.proofs.lemmas.Bool.{eqb-true, eq-eqb}
+use Rattle.std.proofs.lemmas.Bool.{eqb-true, eq-eqb, false≢true}
 use Rattle.std.proofs.lemmas.List.{length-map}
 use Rattle.std.proofs.lemmas.List.Sums.{sum_by-cons}
 use Rattle.ux_model.specs.Types.{Errno, Fd, Name, SockType, Mode, OpenFlags, Whence, Request, Reply}
@@ -31,27 +30,28 @@ use Rattle.ux_model.specs.Opening.{open_file, file_description}
 use Rattle.ux_model.specs.Reading.{read, read_answer, read_error, offset_after_read, is_short_read}
 use Rattle.ux_model.specs.Writing.{write, write_answer, offset_after_write, write_place}
 use Rattle.ux_model.specs.Seeking.{lseek, seek_to, seek_base}
-use Rattle.ux_model.specs.Descriptors.{dup, dup2, dup_from, get_flags, set_flags, with_flags}
+use Rattle.ux_model.specs.Descriptors.{dup, dup2, dup_from, set_flags, with_flags}
 use Rattle.ux_model.specs.Users.{no_id, may_become, set_ids}
 use Rattle.ux_model.specs.Forking.{fork, exec}
 use Rattle.ux_model.specs.Closing.{close, exit, off}
 use Rattle.ux_model.specs.Release.{settled, released}
 use Rattle.ux_model.specs.Step.{Step, outcome}
+use Rattle.ux_model.specs.Asking.{asks}
 use Rattle.ux_model.specs.Invariants.{LeftByRefusal}
 use Rattle.ux_model.proofs.Changes.Named.{table_in, named_there}
 use Rattle.ux_model.proofs.Changes.Walk.{either, maybe, by_target, by_path, found}
 use Rattle.ux_model.proofs.Changes.Bounds.{new_bounded}
 use Rattle.ux_model.proofs.Lists.OnePlace.{same_at}
-use Rattle.ux_model.proofs.Changes.Reaching.{May, tables_alone, lives_too, users_too, may_change, with_ids_reached, Reaches, still}
-use Rattle.ux_model.proofs.Changes.Reaching.{description_made, peers_made, object_changed, paths_taken, turned_off, same_target}
+use Rattle.ux_model.proofs.Changes.Reaching.{May, tables_alone, lives_too, users_too, files_too, paths_too, bindings_too, may_change, with_ids_reached, Reaches, still}
+use Rattle.ux_model.proofs.Changes.Reaching.{description_made, peers_made, object_changed, paths_taken, turned_off, same_target, wider}
 use Rattle.ux_model.proofs.Changes.Reaching.{NamesWhatIsThere, put_names, taken_names, same_names, kept_names, none_counts}
 use Rattle.ux_model.proofs.Changes.Reaching.{with_table_reached, with_child_reached, with_process_reached, with_description_reached}
 use Rattle.ux_model.proofs.Changes.Reaching.{some_filled, some_pushed}
-use Rattle.ux_model.proofs.Changes.Obeying.{failures, FailAlike, tells_choice, Obeys, Call, refuses, uses, answers, may_fail, there_of}
-use Rattle.ux_model.proofs.Steps.NameCalls.{socket_obeys, bind_obeys, listen_obeys, connect_obeys, accept_obeys, sock_name_obeys}
-use Rattle.ux_model.proofs.Steps.NameCalls.{peer_name_obeys, shutdown_obeys}
+use Rattle.ux_model.proofs.Changes.Obeying.{failures, FailAlike, tells_choice, Obeys, Call, refuses, uses, answers, may_fail, there_of, widened}
+use Rattle.ux_model.proofs.Steps.NameCalls.{socket_obeys, bind_obeys, listen_obeys, connect_obeys, accept_obeys, shutdown_obeys}
 use Rattle.ux_model.proofs.Steps.MakingCalls.{object_obeys, create_obeys, pipe_obeys, two_names}
-use Rattle.ux_model.proofs.Steps.OptionCalls.{get_opt_obeys, set_opt_obeys, poll_obeys}
+use Rattle.ux_model.proofs.Steps.OptionCalls.{get_opt_obeys, set_opt_obeys}
+use Rattle.ux_model.proofs.Steps.Asking.{each_asks, asking_obeys}
 use Rattle.ux_model.proofs.Steps.MessageCalls.{flight_limit_is, from_obeys, send_obeys, receive_obeys, recv_obeys}
 use Rattle.ux_model.proofs.Changes.HeldOpen.{IsHeldOpen, KeepsObjects, same_objects, held_changed, held_by_changed, with_process_objects}
 use Rattle.ux_model.proofs.Changes.HeldOpen.{with_table_objects}
@@ -80,10 +80,6 @@ dup_from_obeys S p fd minimum = found (Call S) S p fd _ (refuses refl refl) (λ 
     (λ b. maybe (Call S) (lowest_free_from minimum.0 (table_of S p)) _ _ (refuses refl refl)
     (λ n low. answers refl refl refl (with_table_objects S p _) (with_table_reached S p _ still
     (λ sound. put_names S (table_of S p) (table_of S p) n (copy_of e) (there_of S e.description D h) (same_names S (table_of S p)))))))
-
-pub get_flags_obeys : (S : State) (p : ℕ) (fd : Fd) → Call S (get_flags S p fd)
-unfolding get_flags
-get_flags_obeys S p fd = found (Call S) S p fd _ (refuses refl refl) (λ e D g h. answers refl refl refl refl still)
 
 pub flags_obeys : (S : State) (p : ℕ) (fd : Fd) (flags : OpenFlags) → Call S (set_flags S p fd flags)
 unfolding set_flags
@@ -123,9 +119,9 @@ exec_obeys S p = maybe (Call S) (process_at S p) _ _ (refuses refl refl) (λ P h
     (λ sound. subst (λ (l : List (Option Descriptor)). NamesWhatIsThere S l (map kept_on_exec P.table)) (sym (ap table_in h))
     (kept_names S P.table))))
 
-pub off_obeys : (S : State) → Call S (off S)
+pub off_obeys : (S : State) → Obeys S bindings_too (off S)
 unfolding off
-off_obeys S = answers refl refl refl refl (turned_off still)
+off_obeys S = answers refl refl refl refl (turned_off still refl refl)
 
 -- ---- ids
 
@@ -138,11 +134,11 @@ ids_obey S p uid gid = maybe (Obeys S users_too) (process_at S p) _ _ (refuses r
 
 -- ---- paths
 
-pub unlink_obeys : (S : State) (path : Name) → Call S (unlink S path)
+pub unlink_obeys : (S : State) (path : Name) → Obeys S paths_too (unlink S path)
 unfolding unlink
-unlink_obeys S path = either (Call S) (not (is_valid_path path)) _ _ (λ b. refuses refl refl)
-    (λ b. either (Call S) (not (is_some (named path S.paths))) _ _ (λ b. refuses refl refl)
-    (λ b. answers refl refl refl refl (paths_taken (λ e. not (same_name e.0 path)) still)))
+unlink_obeys S path = either (Obeys S paths_too) (not (is_valid_path path)) _ _ (λ b. refuses refl refl)
+    (λ b. either (Obeys S paths_too) (not (is_some (named path S.paths))) _ _ (λ b. refuses refl refl)
+    (λ b. answers refl refl refl refl (paths_taken (λ e. not (same_name e.0 path)) still refl)))
 
 -- ---- pairs
 
@@ -244,11 +240,11 @@ open_obeys S p path mode flags = either (Call S) (not (is_valid_path path)) _ _ 
 
 -- the description and its object change
 both_changed : (S : State) (o n : ℕ) (held : IsHeldOpen S o) (old new : View) → place S.objects o ≡ Some old → new.opened ≡ old.opened →
-    Reaches S tables_alone (with_object (with_description S held.entry.description (record held.description { offset = n })) o new)
+    Reaches S files_too (with_object (with_description S held.entry.description (record held.description { offset = n })) o new)
 both_changed S o n held old new there opened =
     let d : ℕ = held.entry.description in
     object_changed o old new (with_description_reached S d held.description (record held.description { offset = n }) still held.there
-    (λ sound. same_target S d held.description.target)) there opened
+    (λ sound. same_target S d held.description.target)) there opened refl
 
 -- and the object is held open still
 both_kept : (S : State) (o n : ℕ) (held : IsHeldOpen S o) (new : View) →
@@ -266,18 +262,18 @@ abbrev held_by : (S : State) (p : ℕ) (fd : Fd) (e : Descriptor) (D : Descripti
     description_at S e.description ≡ Some D → D.target ≡ to_object o → IsHeldOpen S o
 held_by S p fd e D o g h t = record { process = p; number = fd.0; entry = e; description = D; named = g; there = h; leads = t }
 
-read_error_obeys : (S : State) (o : ℕ) (view : View) (e : ObjectError) → Call S (read_error S o view e)
-read_error_obeys S o view would_block = either (Call S) (is_pipe view.body && not (is_open_for can_write S o)) _ _
+read_error_obeys : (S : State) (o : ℕ) (view : View) (e : ObjectError) → Obeys S files_too (read_error S o view e)
+read_error_obeys S o view would_block = either (Obeys S files_too) (is_pipe view.body && not (is_open_for can_write S o)) _ _
     (λ b. answers refl refl refl refl still) (λ b. refuses refl refl)
 read_error_obeys S o view full = refuses refl refl
 read_error_obeys S o view invalid = refuses refl refl
 
 read_answer_obeys : (S : State) (o : ℕ) (held : IsHeldOpen S o) (view : View) (r : Result (List ℕ × Body) ObjectError) →
     place S.objects o ≡ Some view →
-    Call S (read_answer S held.entry.description held.description o view r)
+    Obeys S files_too (read_answer S held.entry.description held.description o view r)
 read_answer_obeys S o held view (Ok found) there =
     let n : ℕ = offset_after_read held.description view found.0 in
-    may_fail S _ o view _ held there (uses refl refl refl (both_kept S o n held (with_body view found.1))
+    may_fail S _ o view _ held there refl (uses refl refl refl (both_kept S o n held (with_body view found.1))
     (body_alike S o view found.1 there) (both_changed S o n held view (with_body view found.1) there refl))
 read_answer_obeys S o held view (Err e) there = read_error_obeys S o view e
 
@@ -316,12 +312,13 @@ still_own (Reply.Child pid) h = h
 still_own (Reply.Flags flags) h = h
 still_own (Reply.Err e) h = h
 
-socket_read_obeys : (S : State) (o : Outcome) → Call S o → Call S (record o { reply = bytes_alone o.reply })
+socket_read_obeys : (S : State) (o : Outcome) → Call S o → Obeys S files_too (record o { reply = bytes_alone o.reply })
 socket_read_obeys S o obeys = record {
   own_reply = still_own o.reply obeys.own_reply;
   refused = λ e h. obeys.refused e (still_error o.reply e h);
   failed = obeys.failed;
-  reached = obeys.reached;
+  fails = λ T h. refl;
+  reached = wider S files_too o.next obeys.reached;
   objects = obeys.objects;
   alike = obeys.alike;
 }
@@ -330,20 +327,20 @@ socket_at_is : (S : State) (d : ℕ) (D : Description) (s : Socket) → descript
     socket_at S d ≡ Some s
 socket_at_is S d D s h t = ap socket_in h ∙ ap socket_of t
 
-pub read_obeys : (S : State) (p : ℕ) (fd : Fd) (n : ℕ) → Call S (read S p fd n)
+pub read_obeys : (S : State) (p : ℕ) (fd : Fd) (n : ℕ) → Obeys S files_too (read S p fd n)
 unfolding read
-read_obeys S p fd n = found (Call S) S p fd _ (refuses refl refl) (λ e D g h. by_target (Call S) D.target _ _
-    (λ o t. maybe (Call S) (place S.objects o) _ _ (refuses refl refl)
-    (λ view there. either (Call S) (not (can_read D.mode)) _ _ (λ b. refuses refl refl)
-    (λ b. either (Call S) (is_short_read view.body (min read_limit n)) _ _ (λ b. refuses refl refl)
-    (λ b. either (Call S) (holds_bytes view.body && (min read_limit n == 0)) _ _ (λ b. answers refl refl refl refl still)
+read_obeys S p fd n = found (Obeys S files_too) S p fd _ (refuses refl refl) (λ e D g h. by_target (Obeys S files_too) D.target _ _
+    (λ o t. maybe (Obeys S files_too) (place S.objects o) _ _ (refuses refl refl)
+    (λ view there. either (Obeys S files_too) (not (can_read D.mode)) _ _ (λ b. refuses refl refl)
+    (λ b. either (Obeys S files_too) (is_short_read view.body (min read_limit n)) _ _ (λ b. refuses refl refl)
+    (λ b. either (Obeys S files_too) (holds_bytes view.body && (min read_limit n == 0)) _ _ (λ b. answers refl refl refl refl still)
     (λ b. read_answer_obeys S o (held_by S p fd e D o g h t) view (read_body view.body D.offset (min read_limit n)) there)))))
     (λ s t. socket_read_obeys S _ (receive_obeys S p e.description s (incoming (min read_limit n) 0 no_flags)
     (socket_at_is S e.description D s h t))))
 
 write_answer_obeys : (S : State) (o : ℕ) (held : IsHeldOpen S o) (view : View) (r : Result (ℕ × Body) ObjectError) →
     place S.objects o ≡ Some view →
-    Call S (write_answer S held.entry.description held.description o view r)
+    Obeys S files_too (write_answer S held.entry.description held.description o view r)
 write_answer_obeys S o held view (Ok made) there =
     let n : ℕ = offset_after_write held.description view made.0 in
     uses refl refl refl (both_kept S o n held (with_body view made.1)) (body_alike S o view made.1 there)
@@ -352,18 +349,18 @@ write_answer_obeys S o held view (Err would_block) there = refuses refl refl
 write_answer_obeys S o held view (Err full) there = refuses refl refl
 write_answer_obeys S o held view (Err invalid) there = refuses refl refl
 
-pub write_obeys : (S : State) (p tag : ℕ) (fd : Fd) (bytes : List ℕ) → Call S (write S p tag fd bytes)
+pub write_obeys : (S : State) (p tag : ℕ) (fd : Fd) (bytes : List ℕ) → Obeys S files_too (write S p tag fd bytes)
 unfolding write
-write_obeys S p tag fd bytes = found (Call S) S p fd _ (refuses refl refl) (λ e D g h. by_target (Call S) D.target _ _
-    (λ o t. maybe (Call S) (place S.objects o) _ _ (refuses refl refl)
-    (λ view there. either (Call S) (not (can_write D.mode)) _ _ (λ b. refuses refl refl)
-    (λ b. either (Call S) (holds_bytes view.body && (length bytes == 0)) _ _ (λ b. answers refl refl refl refl still)
-    (λ b. either (Call S) (is_pipe view.body && not (is_open_for can_read S o)) _ _ (λ b. refuses refl refl)
+write_obeys S p tag fd bytes = found (Obeys S files_too) S p fd _ (refuses refl refl) (λ e D g h. by_target (Obeys S files_too) D.target _ _
+    (λ o t. maybe (Obeys S files_too) (place S.objects o) _ _ (refuses refl refl)
+    (λ view there. either (Obeys S files_too) (not (can_write D.mode)) _ _ (λ b. refuses refl refl)
+    (λ b. either (Obeys S files_too) (holds_bytes view.body && (length bytes == 0)) _ _ (λ b. answers refl refl refl refl still)
+    (λ b. either (Obeys S files_too) (is_pipe view.body && not (is_open_for can_read S o)) _ _ (λ b. refuses refl refl)
     (λ b. let held : IsHeldOpen S o = held_by S p fd e D o g h t in
-    may_fail S _ o view _ held there (write_answer_obeys S o held view (write_body view.body (write_place D view) bytes) there))))))
-    (λ s t. maybe (Call S) (process_at S p) _ _ (refuses refl refl)
-    (λ P here. from_obeys S (flight_limit P) e.description s None (message_of (sending tag p P None bytes) (own_cred p P) [])
-    (socket_at_is S e.description D s h t) (λ sound k gone. refl, flight_limit_is S p P here, omega arith, λ bounded. omega arith))))
+    may_fail S _ o view _ held there refl (write_answer_obeys S o held view (write_body view.body (write_place D view) bytes) there))))))
+    (λ s t. maybe (Obeys S files_too) (process_at S p) _ _ (refuses refl refl)
+    (λ P here. widened S files_too _ (from_obeys S (flight_limit P) e.description s None (message_of (sending tag p P None bytes) (own_cred p P) [])
+    (socket_at_is S e.description D s h t) (λ sound k gone. refl, flight_limit_is S p P here, omega arith, λ bounded. omega arith)))))
 
 seek_to_obeys : (S : State) (d : ℕ) (D : Description) (to : ℤ) → description_at S d ≡ Some D → Call S (seek_to S d D to)
 seek_to_obeys S d D (pos n) h = either (Call S) (nat_lt offset_limit n) _ _ (λ b. refuses refl refl)
@@ -381,42 +378,47 @@ lseek_obeys S p fd offset whence = found (Call S) S p fd _ (refuses refl refl) (
 
 -- ---- all calls
 
-pub each_obeys : (S : State) (p tag : ℕ) (request : Request) → Obeys S (may_change request) (outcome S p tag request)
+-- those that don't only ask
+act_obeys : (S : State) (p tag : ℕ) (request : Request) → asks request ≡ false → Obeys S (may_change request) (outcome S p tag request)
 unfolding outcome
-each_obeys S p tag (Request.Open path mode flags) = open_obeys S p path mode flags
-each_obeys S p tag (Request.Create path mode flags) = create_obeys S p path mode flags
-each_obeys S p tag (Request.MemFd flags) = object_obeys S p _ (memory []) flags
-each_obeys S p tag (Request.EventFd value flags) = object_obeys S p _ (counter value) flags
-each_obeys S p tag (Request.Pipe flags) = pipe_obeys S p flags
-each_obeys S p tag (Request.Read fd n) = read_obeys S p fd n
-each_obeys S p tag (Request.Write fd bytes) = write_obeys S p tag fd bytes
-each_obeys S p tag (Request.Lseek fd offset whence) = lseek_obeys S p fd offset whence
-each_obeys S p tag (Request.Dup fd) = dup_obeys S p fd
-each_obeys S p tag (Request.Dup2 fd to) = dup2_obeys S p fd to
-each_obeys S p tag (Request.DupFrom fd minimum) = dup_from_obeys S p fd minimum
-each_obeys S p tag (Request.GetFlags fd) = get_flags_obeys S p fd
-each_obeys S p tag (Request.SetFlags fd flags) = flags_obeys S p fd flags
-each_obeys S p tag (Request.Close fd) = close_obeys S p fd
-each_obeys S p tag (Request.Unlink path) = unlink_obeys S path
-each_obeys S p tag (Request.Socket kind flags) = socket_obeys S p kind flags
-each_obeys S p tag (Request.SocketPair kind flags) = pair_obeys S p kind flags
-each_obeys S p tag (Request.Bind fd addr) = bind_obeys S p fd addr
-each_obeys S p tag (Request.Listen fd backlog) = listen_obeys S p fd backlog
-each_obeys S p tag (Request.Connect fd addr) = connect_obeys S p fd addr
-each_obeys S p tag (Request.Accept fd flags) = accept_obeys S p fd flags
-each_obeys S p tag (Request.Shutdown fd how) = shutdown_obeys S p fd how
-each_obeys S p tag (Request.GetOpt fd opt) = get_opt_obeys S p fd opt
-each_obeys S p tag (Request.SetOpt fd opt value) = set_opt_obeys S p fd opt value
-each_obeys S p tag (Request.GetSockName fd) = sock_name_obeys S p fd
-each_obeys S p tag (Request.GetPeerName fd) = peer_name_obeys S p fd
-each_obeys S p tag (Request.SendMsg fd addr bytes control flags) = send_obeys S p tag fd addr bytes control flags
-each_obeys S p tag (Request.RecvMsg fd n space flags) = recv_obeys S p fd n space flags
-each_obeys S p tag (Request.Poll fd) = poll_obeys S p fd
-each_obeys S p tag (Request.SetIds uid gid) = ids_obey S p uid gid
-each_obeys S p tag Request.Fork = fork_obeys S p
-each_obeys S p tag Request.Exec = exec_obeys S p
-each_obeys S p tag Request.Exit = exit_obeys S p
-each_obeys S p tag Request.Off = off_obeys S
+act_obeys S p tag (Request.Open path mode flags) h = open_obeys S p path mode flags
+act_obeys S p tag (Request.Create path mode flags) h = create_obeys S p path mode flags
+act_obeys S p tag (Request.MemFd flags) h = object_obeys S p _ (memory []) flags
+act_obeys S p tag (Request.EventFd value flags) h = object_obeys S p _ (counter value) flags
+act_obeys S p tag (Request.Pipe flags) h = pipe_obeys S p flags
+act_obeys S p tag (Request.Read fd n) h = read_obeys S p fd n
+act_obeys S p tag (Request.Write fd bytes) h = write_obeys S p tag fd bytes
+act_obeys S p tag (Request.Lseek fd offset whence) h = lseek_obeys S p fd offset whence
+act_obeys S p tag (Request.Dup fd) h = dup_obeys S p fd
+act_obeys S p tag (Request.Dup2 fd to) h = dup2_obeys S p fd to
+act_obeys S p tag (Request.DupFrom fd minimum) h = dup_from_obeys S p fd minimum
+act_obeys S p tag (Request.SetFlags fd flags) h = flags_obeys S p fd flags
+act_obeys S p tag (Request.Close fd) h = close_obeys S p fd
+act_obeys S p tag (Request.Unlink path) h = unlink_obeys S path
+act_obeys S p tag (Request.Socket kind flags) h = socket_obeys S p kind flags
+act_obeys S p tag (Request.SocketPair kind flags) h = pair_obeys S p kind flags
+act_obeys S p tag (Request.Bind fd addr) h = bind_obeys S p fd addr
+act_obeys S p tag (Request.Listen fd backlog) h = listen_obeys S p fd backlog
+act_obeys S p tag (Request.Connect fd addr) h = connect_obeys S p fd addr
+act_obeys S p tag (Request.Accept fd flags) h = accept_obeys S p fd flags
+act_obeys S p tag (Request.Shutdown fd how) h = shutdown_obeys S p fd how
+act_obeys S p tag (Request.GetOpt fd opt) h = get_opt_obeys S p fd opt
+act_obeys S p tag (Request.SetOpt fd opt value) h = set_opt_obeys S p fd opt value
+act_obeys S p tag (Request.SendMsg fd addr bytes control flags) h = send_obeys S p tag fd addr bytes control flags
+act_obeys S p tag (Request.RecvMsg fd n space flags) h = recv_obeys S p fd n space flags
+act_obeys S p tag (Request.SetIds uid gid) h = ids_obey S p uid gid
+act_obeys S p tag Request.Fork h = fork_obeys S p
+act_obeys S p tag Request.Exec h = exec_obeys S p
+act_obeys S p tag Request.Exit h = exit_obeys S p
+act_obeys S p tag Request.Off h = off_obeys S
+act_obeys S p tag request h = absurd (false≢true (sym h))
+
+pub each_obeys : (S : State) (p tag : ℕ) (request : Request) → Obeys S (may_change request) (outcome S p tag request)
+each_obeys S p tag request = go (asks request) refl
+  where
+    go : (b : Bool) → asks request ≡ b → Obeys S (may_change request) (outcome S p tag request)
+    go true h = asking_obeys (each_asks S p tag request h)
+    go false h = act_obeys S p tag request h
 
 -- ---- what was chosen
 
@@ -425,7 +427,8 @@ chosen_reached S T may o reply obeys (own e f) = subst (Reaches S may) (sym f) o
 chosen_reached S T may o reply obeys (lacking_memory e may_lack f) = subst (Reaches S may) (sym f) still
 chosen_reached S T may o reply obeys (failing e f) =
     let one = (obeys.failed T f).0 in
-    subst (Reaches S may) (sym one.left) (object_changed one.object one.view (after_failure one.view) still one.there refl)
+    subst (Reaches S may) (sym one.left)
+    (object_changed one.object one.view (after_failure one.view) still one.there refl (obeys.fails T f))
 
 pub chosen_left : (S T : State) (may : May) (o : Outcome) (e : Errno) → Obeys S may o → Chosen S o (Reply.Err e) T → LeftByRefusal S e T
 chosen_left S T may o e obeys (own is f) = subst (LeftByRefusal S e) (sym f) (obeys.refused e (sym is))

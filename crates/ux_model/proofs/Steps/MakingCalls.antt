@@ -21,7 +21,7 @@ use Rattle.ux_model.proofs.Lists.Rising.{two_rise, lowest_below}
 use Rattle.ux_model.proofs.Counting.Making.{place_last}
 use Rattle.ux_model.proofs.Changes.Named.{table_in}
 use Rattle.ux_model.proofs.Changes.Walk.{either, maybe}
-use Rattle.ux_model.proofs.Changes.Reaching.{objects_too, LeadsToThere, Reaches, still, object_made, description_made, path_made}
+use Rattle.ux_model.proofs.Changes.Reaching.{May, files_made, objects_too, LeadsToThere, Reaches, still, object_made, description_made, path_made}
 use Rattle.ux_model.proofs.Changes.Reaching.{NamesWhatIsThere, put_names, same_names, with_table_reached, some_more, some_pushed}
 use Rattle.ux_model.proofs.Changes.HeldOpen.{IsHeldOpen, KeepsObjects, with_table_objects}
 use Rattle.ux_model.proofs.Changes.Obeying.{failures, FailAlike, Obeys, refuses, uses}
@@ -83,9 +83,9 @@ leads_to_made S body names mode flags o h =
 
 -- ---- with one descriptor
 
-one_made : (S : State) (p n : ℕ) (body : Body) (names : List (Name × PathTarget)) (mode : Mode) (flags : OpenFlags) →
-    lowest_free (table_of S p) ≡ Some n → Reaches S objects_too (made_so S body names) →
-    Obeys S objects_too (taking_memory (Reply.Fd (fd_of n))
+one_made : {may : May} (S : State) (p n : ℕ) (body : Body) (names : List (Name × PathTarget)) (mode : Mode) (flags : OpenFlags) →
+    lowest_free (table_of S p) ≡ Some n → Reaches S may (made_so S body names) →
+    Obeys S may (taking_memory (Reply.Fd (fd_of n))
     (with_table (with_new (made_so S body names) (file_description (next_object S) mode flags)) p
     (filled (table_of S p) n (descriptor flags (next_description S)))))
 one_made S p n body names mode flags low made =
@@ -103,10 +103,10 @@ one_made S p n body names mode flags low made =
     (description_made D made (λ sound. leads_to_made S body names mode flags) (record { refs = λ d. refl; peer = refl }) tt)
     (λ sound. put_names U (table_of U p) (table_of U p) n e (some_pushed S.descriptions D) (same_names U (table_of U p))))
 
-made_obeys : (S : State) (p : ℕ) (body : Body) (names : List (Name × PathTarget)) (mode : Mode) (flags : OpenFlags) →
-    Reaches S objects_too (made_so S body names) → Obeys S objects_too (open_made S (made_so S body names) p mode flags)
-made_obeys S p body names mode flags made = maybe (Obeys S objects_too) (lowest_free (table_of S p)) _ _ (refuses refl refl)
-    (λ n low. either (Obeys S objects_too) (object_table_full S) _ _ (λ b. refuses refl refl)
+made_obeys : {may : May} (S : State) (p : ℕ) (body : Body) (names : List (Name × PathTarget)) (mode : Mode) (flags : OpenFlags) →
+    Reaches S may (made_so S body names) → Obeys S may (open_made S (made_so S body names) p mode flags)
+made_obeys {may} S p body names mode flags made = maybe (Obeys S may) (lowest_free (table_of S p)) _ _ (refuses refl refl)
+    (λ n low. either (Obeys S may) (object_table_full S) _ _ (λ b. refuses refl refl)
     (λ b. one_made S p n body names mode flags low made))
 
 pub object_obeys : (S : State) (p : ℕ) (unknown : Bool) (body : Body) (flags : OpenFlags) →
@@ -116,12 +116,12 @@ object_obeys S p unknown body flags = either (Obeys S objects_too) unknown _ _ (
     (λ b. made_obeys S p body S.paths Mode.Both flags (object_made body still refl))
 
 pub create_obeys : (S : State) (p : ℕ) (path : Name) (mode : Mode) (flags : OpenFlags) →
-    Obeys S objects_too (create_file S p path mode flags)
+    Obeys S files_made (create_file S p path mode flags)
 unfolding create_file
-create_obeys S p path mode flags = either (Obeys S objects_too) (not (is_valid_path path)) _ _ (λ b. refuses refl refl)
-    (λ b. either (Obeys S objects_too) (is_some (named path S.paths)) _ _ (λ c. refuses refl refl)
+create_obeys S p path mode flags = either (Obeys S files_made) (not (is_valid_path path)) _ _ (λ b. refuses refl refl)
+    (λ b. either (Obeys S files_made) (is_some (named path S.paths)) _ _ (λ c. refuses refl refl)
     (λ c. made_obeys S p (memory []) (S.paths ++ (path, file (next_object S)) ∷ []) mode flags
-    (path_made path (next_object S) (object_made (memory []) still refl) (some_pushed S.objects (new_view (memory []))))))
+    (path_made path (next_object S) (object_made (memory []) still refl) (some_pushed S.objects (new_view (memory []))) refl)))
 
 -- ---- with two
 

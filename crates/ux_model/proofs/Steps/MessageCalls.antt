@@ -220,6 +220,7 @@ ended_obeys S d t s h tied gone = record {
       subst (λ g. LeftByRefusal S g (with_socket_by S d (with_association None))) same
       (inr (record { description = d; target = t; socket = s; there = h; was_associated = tied; was_gone = gone; left = refl }));
   failed = λ T none. absurd (cc none);
+  fails = λ T none. absurd (cc none);
   reached = association_reached S d None;
   objects = same_objects S (with_socket_by S d (with_association None)) refl;
   alike = λ n was. refl;
@@ -349,6 +350,7 @@ reading_obeys S control o obeys = record {
   own_reply = obeys.own_reply;
   refused = obeys.refused;
   failed = obeys.failed;
+  fails = obeys.fails;
   reached =
       obeys.reached;
   objects = obeys.objects;
@@ -380,6 +382,7 @@ reset_obeys S d s h pending = record {
       subst (λ g. LeftByRefusal S g (with_socket_by S d (with_reset false))) same
       (record { description = d; socket = s; there = h; was_pending = pending; left = refl });
   failed = λ T none. absurd (cc none);
+  fails = λ T none. absurd (cc none);
   reached = with_socket_reached S d (with_reset false) still (λ sound t here. pending_changed S d t false);
   objects = same_objects S (with_socket_by S d (with_reset false)) refl;
   alike = λ n was. refl;

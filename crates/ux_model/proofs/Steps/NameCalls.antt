@@ -17,9 +17,9 @@ use Rattle.ux_model.specs.State.{State, description_at, socket_at, process_at, t
 use Rattle.ux_model.specs.State.{with_table, with_new}
 use Rattle.ux_model.specs.References.{times}
 use Rattle.ux_model.specs.Pairing.{socket_description}
-use Rattle.ux_model.specs.Binding.{with_name, bind_to, bind, get_sock_name}
+use Rattle.ux_model.specs.Binding.{with_name, bind_to, bind}
 use Rattle.ux_model.specs.Connecting.{make_socket, listener_of, with_listening, listen, connect_to, connect_stream, connect_datagram}
-use Rattle.ux_model.specs.Connecting.{connect, get_peer_name, shutdown}
+use Rattle.ux_model.specs.Connecting.{connect, shutdown}
 use Rattle.ux_model.specs.Accepting.{as_accepted, accepted_with, phase_without_first_end, without_first_end, with_accepted, accept_first}
 use Rattle.ux_model.specs.Accepting.{accept}
 use Rattle.ux_model.specs.Peers.{at_target, at_socket}
@@ -28,13 +28,13 @@ use Rattle.ux_model.proofs.Lists.ChangedPlaces.{changed_here, sum_by-changed}
 use Rattle.ux_model.proofs.Counting.Sockets.{peer_left, end_count, phase_left, peer_associated, ends_associated}
 use Rattle.ux_model.proofs.Changes.Bounds.{new_bounded, free_short}
 use Rattle.ux_model.proofs.Changes.Sound.{IsSound, unaccepted, target_name, name_in}
-use Rattle.ux_model.proofs.Changes.Walk.{either, maybe, found_socket, found_named, found_peer}
-use Rattle.ux_model.proofs.Changes.Reaching.{tables_alone, Reaches, still, description_made, connection_made, description_changed}
+use Rattle.ux_model.proofs.Changes.Walk.{either, maybe, found_socket, found_named}
+use Rattle.ux_model.proofs.Changes.Reaching.{May, bindings_too, tables_alone, Reaches, still, description_made, connection_made, description_changed}
 use Rattle.ux_model.proofs.Changes.Reaching.{path_bound, name_bound, KeepsPlace, KeepsTarget, KeepsSocket, kept_place, kept_socket}
 use Rattle.ux_model.proofs.Changes.Reaching.{same_target, nothing_there, put_names, same_names, with_table_reached, with_socket_reached}
 use Rattle.ux_model.proofs.Changes.Reaching.{some_pushed}
 use Rattle.ux_model.proofs.Changes.HeldOpen.{with_table_objects}
-use Rattle.ux_model.proofs.Changes.Obeying.{Call, refuses, answers}
+use Rattle.ux_model.proofs.Changes.Obeying.{Obeys, Call, refuses, answers}
 
 -- ---- socket
 
@@ -55,9 +55,9 @@ same_socket : (S : State) (d : ℕ) (s t : Socket) → socket_at S d ≡ Some s 
 same_socket S d s t h here = let same : Some s ≡ Some t = sym h ∙ here in cc same
 
 -- a socket without a name gets one
-name_given : (S : State) (d : ℕ) (s : Socket) (name : Addr) → socket_at S d ≡ Some s → is_unnamed_addr s.name ≡ true →
+name_given : {may : May} (S : State) (d : ℕ) (s : Socket) (name : Addr) → socket_at S d ≡ Some s → is_unnamed_addr s.name ≡ true →
     name_bytes name ≤ name_limit →
-    Reaches S tables_alone (with_socket_by S d (with_name name))
+    Reaches S may (with_socket_by S d (with_name name))
 name_given S d s name h unnamed short = with_socket_reached S d (with_name name) still (λ sound t here. record {
   holds = λ k gone. omega arith;
   peer = refl;
@@ -82,23 +82,22 @@ shows name (Some D) s h = by_target D.target h
     by_target (to_object o) h = absurd (cc h)
     by_target (to_socket u) h = refl
 
-pub abstract_given : (S : State) (d : ℕ) (s : Socket) (name : Name) → socket_at S d ≡ Some s → is_unnamed_addr s.name ≡ true →
-    length name ≤ name_limit →
-    Reaches S tables_alone (record (with_socket_by S d (with_name (Addr.Abstract name)))
-    { abstract_names = S.abstract_names ++ (name, d) ∷ [] })
-abstract_given S d s name h unnamed short = name_bound name d (name_given S d s (Addr.Abstract name) h unnamed short)
+pub abstract_given : {may : May} (S : State) (d : ℕ) (s : Socket) (name : Name) → socket_at S d ≡ Some s → is_unnamed_addr s.name ≡ true →
+    length name ≤ name_limit → may.names ≡ true →
+    Reaches S may (record (with_socket_by S d (with_name (Addr.Abstract name))) { abstract_names = S.abstract_names ++ (name, d) ∷ [] })
+abstract_given S d s name h unnamed short told = name_bound name d (name_given S d s (Addr.Abstract name) h unnamed short)
     (ap name_in (changed_here S.descriptions d (changed (with_name (Addr.Abstract name))))
-    ∙ shows (Addr.Abstract name) (description_at S d) s h)
+    ∙ shows (Addr.Abstract name) (description_at S d) s h) told
 
 bind_to_obeys : (S : State) (d : ℕ) (s : Socket) (addr : Addr) → socket_at S d ≡ Some s → is_unnamed_addr s.name ≡ true →
-    name_bytes addr ≤ name_limit → Call S (bind_to S d addr)
-bind_to_obeys S d s Addr.Unnamed h unnamed short = maybe (Call S) (free_name S.abstract_names) _ _ (refuses refl refl)
-    (λ name free. answers refl refl refl refl (abstract_given S d s name h unnamed (free_short S.abstract_names name free)))
-bind_to_obeys S d s (Addr.Path name) h unnamed short = either (Call S) (is_some (named name S.paths)) _ _ (λ b. refuses refl refl)
-    (λ b. answers refl refl refl refl (path_bound name d (name_given S d s (Addr.Path name) h unnamed short)))
+    name_bytes addr ≤ name_limit → Obeys S bindings_too (bind_to S d addr)
+bind_to_obeys S d s Addr.Unnamed h unnamed short = maybe (Obeys S bindings_too) (free_name S.abstract_names) _ _ (refuses refl refl)
+    (λ name free. answers refl refl refl refl (abstract_given S d s name h unnamed (free_short S.abstract_names name free) refl))
+bind_to_obeys S d s (Addr.Path name) h unnamed short = either (Obeys S bindings_too) (is_some (named name S.paths)) _ _ (λ b. refuses refl refl)
+    (λ b. answers refl refl refl refl (path_bound name d (name_given S d s (Addr.Path name) h unnamed short) refl))
 bind_to_obeys S d s (Addr.Abstract name) h unnamed short =
-    either (Call S) (is_some (named name S.abstract_names)) _ _ (λ b. refuses refl refl)
-    (λ b. answers refl refl refl refl (abstract_given S d s name h unnamed short))
+    either (Obeys S bindings_too) (is_some (named name S.abstract_names)) _ _ (λ b. refuses refl refl)
+    (λ b. answers refl refl refl refl (abstract_given S d s name h unnamed short refl))
 
 pub first_holds : (a b : Bool) → (not a || b) ≡ false → a ≡ true
 first_holds true b h = refl
@@ -116,16 +115,12 @@ valid_short (Addr.Path name) h = leb-true (length name) name_limit
     (and_parts (nat_lt 0 (length name)) _ (and_parts (nat_lt 0 (length name) && nat_le (length name) name_limit) _ h).0).1
 valid_short (Addr.Abstract name) h = leb-true (length name) name_limit h
 
-pub bind_obeys : (S : State) (p : ℕ) (fd : Fd) (addr : Addr) → Call S (bind S p fd addr)
+pub bind_obeys : (S : State) (p : ℕ) (fd : Fd) (addr : Addr) → Obeys S bindings_too (bind S p fd addr)
 unfolding bind
-bind_obeys S p fd addr = found_socket (Call S) S p fd _ (refuses refl refl) (refuses refl refl)
-    (λ d s h. either (Call S) (not (is_unnamed_addr s.name) || not (is_valid_addr addr)) _ _ (λ b. refuses refl refl)
+bind_obeys S p fd addr = found_socket (Obeys S bindings_too) S p fd _ (refuses refl refl) (refuses refl refl)
+    (λ d s h. either (Obeys S bindings_too) (not (is_unnamed_addr s.name) || not (is_valid_addr addr)) _ _ (λ b. refuses refl refl)
     (λ b. bind_to_obeys S d s addr h (first_holds (is_unnamed_addr s.name) (not (is_valid_addr addr)) b)
     (valid_short addr (second_holds (is_unnamed_addr s.name) (is_valid_addr addr) b))))
-
-pub sock_name_obeys : (S : State) (p : ℕ) (fd : Fd) → Call S (get_sock_name S p fd)
-unfolding get_sock_name
-sock_name_obeys S p fd = found_socket (Call S) S p fd _ (refuses refl refl) (refuses refl refl) (λ d s h. answers refl refl refl refl still)
 
 -- ---- listen
 
@@ -202,11 +197,6 @@ unfolding connect
 connect_obeys S p fd addr = maybe (Call S) (process_at S p) _ _ (refuses refl refl)
     (λ P here. found_socket (Call S) S p fd _ (refuses refl refl) (refuses refl refl)
     (λ d s h. either (Call S) (is_dgram s.kind) _ _ (λ b. datagram_obeys S d s.kind addr) (λ b. stream_obeys S d s addr (own_cred p P) h)))
-
-pub peer_name_obeys : (S : State) (p : ℕ) (fd : Fd) → Call S (get_peer_name S p fd)
-unfolding get_peer_name
-peer_name_obeys S p fd = found_socket (Call S) S p fd _ (refuses refl refl) (refuses refl refl)
-    (λ d s h. found_peer (Call S) S s.phase _ (refuses refl refl) (λ peer other there. answers refl refl refl refl still))
 
 -- ---- accept
 

@@ -7,15 +7,13 @@ use Rattle.ux_model.specs.Names.{is_unnamed_addr, free_name}
 use Rattle.ux_model.specs.Limits.{greatest_queue_limit}
 use Rattle.ux_model.specs.Socket.{Socket, is_stream, tied_socket, with_reset, with_passcred, with_queue_limit}
 use Rattle.ux_model.specs.State.{State, socket_at, with_socket_by}
-use Rattle.ux_model.specs.Outcome.{descriptor_at}
 use Rattle.ux_model.specs.Options.{tell_cred, tell_option, get_opt, pass_cred_named, pass_cred_on, may_limit, limit_queue, change_option}
 use Rattle.ux_model.specs.Options.{set_opt}
-use Rattle.ux_model.specs.Readiness.{poll}
 use Rattle.ux_model.proofs.Changes.Walk.{either, maybe, found_socket}
 use Rattle.ux_model.proofs.Changes.Bounds.{free_short}
 use Rattle.ux_model.proofs.Steps.NameCalls.{first_holds, abstract_given}
-use Rattle.ux_model.proofs.Changes.Reaching.{tables_alone, Reaches, still, KeepsSocket, pending_changed, with_socket_reached}
-use Rattle.ux_model.proofs.Changes.Obeying.{Call, refuses, answers}
+use Rattle.ux_model.proofs.Changes.Reaching.{names_too, Reaches, still, KeepsSocket, pending_changed, with_socket_reached}
+use Rattle.ux_model.proofs.Changes.Obeying.{Obeys, Call, refuses, answers}
 
 -- ---- getsockopt
 
@@ -51,17 +49,17 @@ passcred_keeps S d s on = record {
   named = λ a has. has;
 }
 
-passcred_set : {S : State} {T : State} (d : ℕ) (on : Bool) → Reaches S tables_alone T →
-    Reaches S tables_alone (with_socket_by T d (with_passcred on))
+passcred_set : {S : State} {T : State} (d : ℕ) (on : Bool) → Reaches S names_too T →
+    Reaches S names_too (with_socket_by T d (with_passcred on))
 passcred_set {S} {T} d on before = with_socket_reached T d (with_passcred on) before (λ sound t here. passcred_keeps T d t on)
 
-named_obeys : (S : State) (d : ℕ) (s : Socket) → socket_at S d ≡ Some s → is_unnamed_addr s.name ≡ true → Call S (pass_cred_named S d)
-named_obeys S d s h unnamed = maybe (Call S) (free_name S.abstract_names) _ _ (refuses refl refl)
+named_obeys : (S : State) (d : ℕ) (s : Socket) → socket_at S d ≡ Some s → is_unnamed_addr s.name ≡ true → Obeys S names_too (pass_cred_named S d)
+named_obeys S d s h unnamed = maybe (Obeys S names_too) (free_name S.abstract_names) _ _ (refuses refl refl)
     (λ name free. answers refl refl refl refl
-    (passcred_set d true (abstract_given S d s name h unnamed (free_short S.abstract_names name free))))
+    (passcred_set d true (abstract_given S d s name h unnamed (free_short S.abstract_names name free) refl)))
 
-on_obeys : (S : State) (d : ℕ) (s : Socket) → socket_at S d ≡ Some s → Call S (pass_cred_on S d s)
-on_obeys S d s h = either (Call S) (not (is_unnamed_addr s.name) || is_some (tied_socket s.phase)) _ _
+on_obeys : (S : State) (d : ℕ) (s : Socket) → socket_at S d ≡ Some s → Obeys S names_too (pass_cred_on S d s)
+on_obeys S d s h = either (Obeys S names_too) (not (is_unnamed_addr s.name) || is_some (tied_socket s.phase)) _ _
     (λ b. answers refl refl refl refl (passcred_set d true still))
     (λ b. named_obeys S d s h (first_holds (is_unnamed_addr s.name) (is_some (tied_socket s.phase)) b))
 
@@ -76,9 +74,9 @@ limit_keeps S d s limit few = record {
   named = λ a has. has;
 }
 
-limit_obeys : (S : State) (d : ℕ) (s : Socket) (value : ℕ) → Call S (limit_queue S d s value)
-limit_obeys S d s value = either (Call S) (not (is_stream s.kind)) _ _ (λ b. refuses refl refl)
-    (λ b. either (Call S) (not (may_limit value)) _ _ (λ c. refuses refl refl)
+limit_obeys : (S : State) (d : ℕ) (s : Socket) (value : ℕ) → Obeys S names_too (limit_queue S d s value)
+limit_obeys S d s value = either (Obeys S names_too) (not (is_stream s.kind)) _ _ (λ b. refuses refl refl)
+    (λ b. either (Obeys S names_too) (not (may_limit value)) _ _ (λ c. refuses refl refl)
     (λ c. answers refl refl refl refl (with_socket_reached S d (with_queue_limit value) still
     (λ sound t here. limit_keeps S d t value (few c)))))
   where
@@ -87,22 +85,16 @@ limit_obeys S d s value = either (Call S) (not (is_stream s.kind)) _ _ (λ b. re
         (and_parts (nat_le 1 value) (nat_le value greatest_queue_limit) (not-false (may_limit value) h)).1
 
 change_obeys : (S : State) (d : ℕ) (s : Socket) (value : ℕ) (opt : SockOpt) → socket_at S d ≡ Some s →
-    Call S (change_option S d s value opt)
+    Obeys S names_too (change_option S d s value opt)
 change_obeys S d s value SockOpt.Kind h = refuses refl refl
 change_obeys S d s value SockOpt.Error h = refuses refl refl
 change_obeys S d s value SockOpt.PassCred h =
-    either (Call S) (value == 0) _ _ (λ b. answers refl refl refl refl (passcred_set d false still)) (λ b. on_obeys S d s h)
+    either (Obeys S names_too) (value == 0) _ _ (λ b. answers refl refl refl refl (passcred_set d false still)) (λ b. on_obeys S d s h)
 change_obeys S d s value SockOpt.PeerCred h = refuses refl refl
 change_obeys S d s value SockOpt.AcceptConn h = refuses refl refl
 change_obeys S d s value SockOpt.QueueLimit h = limit_obeys S d s value
 
-pub set_opt_obeys : (S : State) (p : ℕ) (fd : Fd) (opt : SockOpt) (value : ℕ) → Call S (set_opt S p fd opt value)
+pub set_opt_obeys : (S : State) (p : ℕ) (fd : Fd) (opt : SockOpt) (value : ℕ) → Obeys S names_too (set_opt S p fd opt value)
 unfolding set_opt
-set_opt_obeys S p fd opt value = found_socket (Call S) S p fd _ (refuses refl refl) (refuses refl refl)
+set_opt_obeys S p fd opt value = found_socket (Obeys S names_too) S p fd _ (refuses refl refl) (refuses refl refl)
     (λ d s h. change_obeys S d s value opt h)
-
--- ---- poll
-
-pub poll_obeys : (S : State) (p : ℕ) (fd : Fd) → Call S (poll S p fd)
-unfolding poll
-poll_obeys S p fd = maybe (Call S) (descriptor_at S p fd) _ _ (answers refl refl refl refl still) (λ e h. answers refl refl refl refl still)

@@ -1,75 +1,88 @@
 -- So does each call, whatever was chosen, and each message with rights that waits was sent.
-use Rattle.std.proofs.Common.{◌≡◌, ℕ, true, false, not, ◌&&◌, ◌==◌, if◌then◌else◌, List}
+use Rattle.std.proofs.Common.{◌≡◌, ℕ, Bool, true, false, not, ◌&&◌, ◌==◌, if◌then◌else◌, List}
 use Rattle.std.proofs.Common.{length, Option, Some, None, refl, ap, sym, ◌∙◌, subst}
 use Rattle.std.specs.Prelude.{IsTrue}
+use Rattle.std.proofs.lemmas.Bool.{false≢true}
 use Rattle.ux_model.specs.Types.{Errno, Request, Reply}
 use Rattle.ux_model.specs.Places.{place}
 use Rattle.ux_model.specs.Description.{Description}
 use Rattle.ux_model.specs.Process.{Process}
 use Rattle.ux_model.specs.State.{State, process_at, is_live}
-use Rattle.ux_model.specs.Outcome.{Chosen, own, lacking_memory, failing}
+use Rattle.ux_model.specs.Outcome.{Outcome, Chosen, own, lacking_memory, failing}
 use Rattle.ux_model.specs.Closing.{off}
 use Rattle.ux_model.specs.Release.{settled, drop_unreferenced}
 use Rattle.ux_model.specs.Step.{Step, outcome}
+use Rattle.ux_model.specs.Asking.{asks}
 use Rattle.ux_model.specs.History.{is_off, has_live, is_allowed}
 use Rattle.ux_model.specs.Changes.{ChangesTables, StepChangesTables}
 use Rattle.ux_model.proofs.Changes.Reaching.{may_change}
 use Rattle.ux_model.proofs.Changes.Obeying.{Obeys}
 use Rattle.ux_model.proofs.Steps.Calls.{each_obeys}
+use Rattle.ux_model.proofs.Steps.Asking.{Asks, each_asks, asking_plain}
 use Rattle.ux_model.proofs.Processes.Living.{settled_keeps}
 use Rattle.ux_model.proofs.Tables.Queues.{queue_in, Quiet, Mail, quiet_mail}
 use Rattle.ux_model.proofs.Tables.Queues.{Waits, settled_waits}
-use Rattle.ux_model.proofs.Tables.Replacing.{replaced_none}
+use Rattle.ux_model.proofs.Tables.Replacing.{replaced_none, IsPlain, gives_none}
 use Rattle.ux_model.proofs.Tables.Replacing.{live_process, held_alike, refusal}
-use Rattle.ux_model.proofs.Tables.Shows.{Shows}
-use Rattle.ux_model.proofs.Tables.DescriptorShows.{dup_shows, dup2_shows, dup_from_shows, get_flags_shows, flags_show, close_shows}
+use Rattle.ux_model.proofs.Tables.Shows.{Shows, silent, answers}
+use Rattle.ux_model.proofs.Tables.DescriptorShows.{dup_shows, dup2_shows, dup_from_shows, flags_show, close_shows}
 use Rattle.ux_model.proofs.Tables.DescriptorShows.{exit_shows, exec_shows, ids_show, fork_shows, off_shows}
 use Rattle.ux_model.proofs.Tables.SocketShows.{open_shows, socket_shows, pair_shows, accept_shows, unlink_shows, bind_shows}
-use Rattle.ux_model.proofs.Tables.SocketShows.{sock_name_shows, peer_name_shows, listen_shows, shutdown_shows, connect_shows, get_opt_shows}
-use Rattle.ux_model.proofs.Tables.SocketShows.{set_opt_shows, poll_shows}
+use Rattle.ux_model.proofs.Tables.SocketShows.{listen_shows, shutdown_shows, connect_shows, get_opt_shows}
+use Rattle.ux_model.proofs.Tables.SocketShows.{set_opt_shows}
 use Rattle.ux_model.proofs.Tables.MakingShows.{create_shows, memory_shows, counter_shows, pipe_shows}
 use Rattle.ux_model.proofs.Tables.MessageShows.{shown_alike, send_shows, recv_shows}
 use Rattle.ux_model.proofs.Tables.FileShows.{read_shows, write_shows, lseek_shows}
 
 -- ---- all calls
 
-pub each_shows : (S : State) (p tag : ℕ) (request : Request) (P : Process) → process_at S p ≡ Some P →
+-- those that don't only ask
+act_shows : (S : State) (p tag : ℕ) (request : Request) (P : Process) → process_at S p ≡ Some P → asks request ≡ false →
     Shows S p tag request (outcome S p tag request)
 unfolding outcome
-each_shows S p tag (Request.Open path mode flags) P here = open_shows S p tag path mode flags P here
-each_shows S p tag (Request.Create path mode flags) P here = create_shows S p tag path mode flags P here
-each_shows S p tag (Request.MemFd flags) P here = memory_shows S p tag flags P here
-each_shows S p tag (Request.EventFd value flags) P here = counter_shows S p tag value flags P here
-each_shows S p tag (Request.Pipe flags) P here = pipe_shows S p tag flags P here
-each_shows S p tag (Request.Read fd n) P here = read_shows S p tag fd n P here
-each_shows S p tag (Request.Write fd bytes) P here = write_shows S p tag fd bytes
-each_shows S p tag (Request.Lseek fd offset whence) P here = lseek_shows S p tag fd offset whence
-each_shows S p tag (Request.Dup fd) P here = dup_shows S p tag fd P here
-each_shows S p tag (Request.Dup2 fd to) P here = dup2_shows S p tag fd to P here
-each_shows S p tag (Request.DupFrom fd minimum) P here = dup_from_shows S p tag fd minimum P here
-each_shows S p tag (Request.GetFlags fd) P here = get_flags_shows S p tag fd
-each_shows S p tag (Request.SetFlags fd flags) P here = flags_show S p tag fd flags P here
-each_shows S p tag (Request.Close fd) P here = close_shows S p tag fd P here
-each_shows S p tag (Request.Unlink path) P here = unlink_shows S p tag path
-each_shows S p tag (Request.Socket kind flags) P here = socket_shows S p tag kind flags P here
-each_shows S p tag (Request.SocketPair kind flags) P here = pair_shows S p tag kind flags
-each_shows S p tag (Request.Bind fd addr) P here = bind_shows S p tag fd addr
-each_shows S p tag (Request.Listen fd backlog) P here = listen_shows S p tag fd backlog
-each_shows S p tag (Request.Connect fd addr) P here = connect_shows S p tag fd addr
-each_shows S p tag (Request.Accept fd flags) P here = accept_shows S p tag fd flags P here
-each_shows S p tag (Request.Shutdown fd how) P here = shutdown_shows S p tag fd how
-each_shows S p tag (Request.GetOpt fd opt) P here = get_opt_shows S p tag fd opt
-each_shows S p tag (Request.SetOpt fd opt value) P here = set_opt_shows S p tag fd opt value
-each_shows S p tag (Request.GetSockName fd) P here = sock_name_shows S p tag fd
-each_shows S p tag (Request.GetPeerName fd) P here = peer_name_shows S p tag fd
-each_shows S p tag (Request.SendMsg fd addr bytes control flags) P here = send_shows S p tag fd addr bytes control flags
-each_shows S p tag (Request.RecvMsg fd n space flags) P here = recv_shows S p tag fd n space flags P here
-each_shows S p tag (Request.Poll fd) P here = poll_shows S p tag fd
-each_shows S p tag (Request.SetIds uid gid) P here = ids_show S p tag uid gid
-each_shows S p tag Request.Fork P here = fork_shows S p tag
-each_shows S p tag Request.Exec P here = exec_shows S p tag
-each_shows S p tag Request.Exit P here = exit_shows S p tag
-each_shows S p tag Request.Off P here = off_shows S p tag
+act_shows S p tag (Request.Open path mode flags) P here h = open_shows S p tag path mode flags P here
+act_shows S p tag (Request.Create path mode flags) P here h = create_shows S p tag path mode flags P here
+act_shows S p tag (Request.MemFd flags) P here h = memory_shows S p tag flags P here
+act_shows S p tag (Request.EventFd value flags) P here h = counter_shows S p tag value flags P here
+act_shows S p tag (Request.Pipe flags) P here h = pipe_shows S p tag flags P here
+act_shows S p tag (Request.Read fd n) P here h = read_shows S p tag fd n P here
+act_shows S p tag (Request.Write fd bytes) P here h = write_shows S p tag fd bytes
+act_shows S p tag (Request.Lseek fd offset whence) P here h = lseek_shows S p tag fd offset whence
+act_shows S p tag (Request.Dup fd) P here h = dup_shows S p tag fd P here
+act_shows S p tag (Request.Dup2 fd to) P here h = dup2_shows S p tag fd to P here
+act_shows S p tag (Request.DupFrom fd minimum) P here h = dup_from_shows S p tag fd minimum P here
+act_shows S p tag (Request.SetFlags fd flags) P here h = flags_show S p tag fd flags P here
+act_shows S p tag (Request.Close fd) P here h = close_shows S p tag fd P here
+act_shows S p tag (Request.Unlink path) P here h = unlink_shows S p tag path
+act_shows S p tag (Request.Socket kind flags) P here h = socket_shows S p tag kind flags P here
+act_shows S p tag (Request.SocketPair kind flags) P here h = pair_shows S p tag kind flags
+act_shows S p tag (Request.Bind fd addr) P here h = bind_shows S p tag fd addr
+act_shows S p tag (Request.Listen fd backlog) P here h = listen_shows S p tag fd backlog
+act_shows S p tag (Request.Connect fd addr) P here h = connect_shows S p tag fd addr
+act_shows S p tag (Request.Accept fd flags) P here h = accept_shows S p tag fd flags P here
+act_shows S p tag (Request.Shutdown fd how) P here h = shutdown_shows S p tag fd how
+act_shows S p tag (Request.GetOpt fd opt) P here h = get_opt_shows S p tag fd opt
+act_shows S p tag (Request.SetOpt fd opt value) P here h = set_opt_shows S p tag fd opt value
+act_shows S p tag (Request.SendMsg fd addr bytes control flags) P here h = send_shows S p tag fd addr bytes control flags
+act_shows S p tag (Request.RecvMsg fd n space flags) P here h = recv_shows S p tag fd n space flags P here
+act_shows S p tag (Request.SetIds uid gid) P here h = ids_show S p tag uid gid
+act_shows S p tag Request.Fork P here h = fork_shows S p tag
+act_shows S p tag Request.Exec P here h = exec_shows S p tag
+act_shows S p tag Request.Exit P here h = exit_shows S p tag
+act_shows S p tag Request.Off P here h = off_shows S p tag
+act_shows S p tag request P here h = absurd (false≢true (sym h))
+
+asking_shows : (S : State) (p tag : ℕ) (request : Request) (o : Outcome) → IsPlain request → Asks S o → Shows S p tag request o
+asking_shows S p tag request o plain a = answers plain (ap (λ (U : State). U.processes) a.next)
+    (gives_none S p request o.reply a.numberless) a.childless (subst (Quiet S) (sym a.next) (silent S))
+
+pub each_shows : (S : State) (p tag : ℕ) (request : Request) (P : Process) → process_at S p ≡ Some P →
+    Shows S p tag request (outcome S p tag request)
+each_shows S p tag request P here = go (asks request) refl
+  where
+    go : (b : Bool) → asks request ≡ b → Shows S p tag request (outcome S p tag request)
+    go true h = asking_shows S p tag request (outcome S p tag request) (asking_plain request h) (each_asks S p tag request h)
+    go false h = act_shows S p tag request P here h
 
 -- ---- what was chosen
 

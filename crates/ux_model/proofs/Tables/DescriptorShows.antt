@@ -15,7 +15,7 @@ use Rattle.ux_model.specs.Delivery.{installed}
 use Rattle.ux_model.specs.State.{State, process_at, table_of, next_process}
 use Rattle.ux_model.specs.State.{with_child, with_description, with_process, with_table}
 use Rattle.ux_model.specs.Outcome.{Outcome}
-use Rattle.ux_model.specs.Descriptors.{dup, dup2, dup_from, get_flags, set_flags, with_flags}
+use Rattle.ux_model.specs.Descriptors.{dup, dup2, dup_from, set_flags, with_flags}
 use Rattle.ux_model.specs.Users.{no_id, may_become, with_ids, set_ids}
 use Rattle.ux_model.specs.Forking.{fork, exec, child_of}
 use Rattle.ux_model.specs.Closing.{close, exit, off, with_nothing_open}
@@ -92,11 +92,6 @@ dup_from_shows S p tag fd minimum Q here = found (Shows S p tag (Request.DupFrom
       mail = quiet_mail S (with_table S p (filled (table_of S p) n (copy_of x))) p tag (Request.DupFrom fd minimum)
           (quiet_table S p (filled (table_of S p) n (copy_of x)));
     })))
-
-pub get_flags_shows : (S : State) (p tag : ℕ) (fd : Fd) → Shows S p tag (Request.GetFlags fd) (get_flags S p fd)
-unfolding get_flags
-get_flags_shows S p tag fd = found (Shows S p tag (Request.GetFlags fd)) S p fd _ (refuses refl)
-    (λ x D g h. answers (record { no_end = refl; keeps = λ n held. refl }) refl refl refl (silent S))
 
 -- one place of a table changes
 changed_at : (table : List (Option Descriptor)) (k n : ℕ) (x y : Option Descriptor) → k < length table → ((k == n) ≡ true → y ≡ x) →

@@ -18,20 +18,19 @@ use Rattle.ux_model.specs.Process.{fd_of}
 use Rattle.ux_model.specs.Delivery.{installed}
 use Rattle.ux_model.specs.State.{State, process_at, table_of, next_description}
 use Rattle.ux_model.specs.State.{with_socket_by, with_table, with_new}
-use Rattle.ux_model.specs.Outcome.{Outcome, answer, taking_memory, descriptor_at, find_socket}
+use Rattle.ux_model.specs.Outcome.{Outcome, answer, taking_memory, find_socket}
 use Rattle.ux_model.specs.Naming.{unlink}
 use Rattle.ux_model.specs.Pairing.{make_pair, with_pair, socket_description}
-use Rattle.ux_model.specs.Binding.{bind_to, bind, get_sock_name, with_name}
+use Rattle.ux_model.specs.Binding.{bind_to, bind, with_name}
 use Rattle.ux_model.specs.Connecting.{make_socket, listener_of, with_listening, listen, connect_to, connect_stream, connect_datagram}
-use Rattle.ux_model.specs.Connecting.{connect, get_peer_name, shutdown, with_connection, server_end, tied, no_open_flags}
+use Rattle.ux_model.specs.Connecting.{connect, shutdown, with_connection, server_end, tied, no_open_flags}
 use Rattle.ux_model.specs.Accepting.{Acceptance, accept_first, accept, with_accepted, without_first_end, as_accepted, accepted_with}
 use Rattle.ux_model.specs.Accepting.{client_name}
 use Rattle.ux_model.specs.Opening.{open_file, file_description}
 use Rattle.ux_model.specs.Options.{tell_cred, tell_option, get_opt, pass_cred_on, may_limit, change_option, set_opt}
-use Rattle.ux_model.specs.Readiness.{poll}
 use Rattle.ux_model.specs.Giving.{given}
 use Rattle.ux_model.specs.Changes.{cloexec_of, sources, oldest_end}
-use Rattle.ux_model.proofs.Changes.Walk.{either, maybe, by_path, found_named, found_peer}
+use Rattle.ux_model.proofs.Changes.Walk.{either, maybe, by_path, found_named}
 use Rattle.ux_model.proofs.Changes.Named.{table_in}
 use Rattle.ux_model.proofs.Lists.ByPlace.{take_none}
 use Rattle.ux_model.proofs.Lists.Rising.{Rise, rise_one, two_rise, lowest_below}
@@ -197,17 +196,6 @@ bind_shows S p tag fd addr = by_socket (Shows S p tag (Request.Bind fd addr)) S 
     (λ d s h there. either (Shows S p tag (Request.Bind fd addr)) (not (is_unnamed_addr s.name) || not (is_valid_addr addr)) _ _
     (λ b. refuses refl) (λ b. bound_shows S p tag d fd addr addr))
 
-pub sock_name_shows : (S : State) (p tag : ℕ) (fd : Fd) → Shows S p tag (Request.GetSockName fd) (get_sock_name S p fd)
-unfolding get_sock_name
-sock_name_shows S p tag fd = by_socket (Shows S p tag (Request.GetSockName fd)) S p fd _ (λ e. refuses refl)
-    (λ d s h there. silent_answer (record { no_end = refl; keeps = λ n held. refl }) refl refl)
-
-pub peer_name_shows : (S : State) (p tag : ℕ) (fd : Fd) → Shows S p tag (Request.GetPeerName fd) (get_peer_name S p fd)
-unfolding get_peer_name
-peer_name_shows S p tag fd = by_socket (Shows S p tag (Request.GetPeerName fd)) S p fd _ (λ e. refuses refl)
-    (λ d s h there. found_peer (Shows S p tag (Request.GetPeerName fd)) S s.phase _ (refuses refl)
-    (λ peer other there. silent_answer (record { no_end = refl; keeps = λ n held. refl }) refl refl))
-
 pub listen_shows : (S : State) (p tag : ℕ) (fd : Fd) (backlog : ℤ) → Shows S p tag (Request.Listen fd backlog) (listen S p fd backlog)
 unfolding listen
 listen_shows S p tag fd backlog = maybe (Shows S p tag (Request.Listen fd backlog)) (process_at S p) _ _ (refuses refl)
@@ -325,11 +313,3 @@ pub set_opt_shows : (S : State) (p tag : ℕ) (fd : Fd) (opt : SockOpt) (value :
 unfolding set_opt
 set_opt_shows S p tag fd opt value = by_socket (Shows S p tag (Request.SetOpt fd opt value)) S p fd _ (λ e. refuses refl)
     (λ d s h there. change_shows S p tag d fd s opt opt value)
-
-pub poll_shows : (S : State) (p tag : ℕ) (fd : Fd) → Shows S p tag (Request.Poll fd) (poll S p fd)
-unfolding poll
-poll_shows S p tag fd = maybe (Shows S p tag (Request.Poll fd)) (descriptor_at S p fd) _ _ (answers plain refl refl refl (silent S))
-    (λ e h. answers plain refl refl refl (silent S))
-  where
-    plain : IsPlain (Request.Poll fd)
-    plain = record { no_end = refl; keeps = λ n held. refl }

@@ -12,9 +12,10 @@ use Rattle.ux_syntax.specs.declared.script.Header.{Header}
 use Rattle.ux_syntax.specs.Lines.{Line}
 use Rattle.ux_syntax.specs.declared.reading.Parsed.{Parsed}
 use Rattle.ux_syntax.specs.Text.{plain_line}
-use Rattle.ux_syntax.specs.Spelling.{Written, open_path, create_path, mem_fd, event_fd, pipe, read_fd, write_fd, seek, dup_fd, dup_onto}
-use Rattle.ux_syntax.specs.Spelling.{dup_above, get_flags, set_flags, close, unlink_path, socket, pair, bind, listen, connect, accept, shut}
-use Rattle.ux_syntax.specs.Spelling.{get_opt, set_opt, sock_name, peer_name, send, recv, poll, set_ids, fork, exec, exit, meaning, Asked}
+use Rattle.ux_fields.specs.declared.CallWord.{CallWord}
+use Rattle.ux_fields.specs.Forms.{kinds, is_off_word}
+use Rattle.ux_fields.specs.Rows.{Row, request_of}
+use Rattle.ux_syntax.specs.Spelling.{meant_row, Asked, FitsAsked}
 use Rattle.ux_syntax.specs.Spelling.{call, wait, act_of, Turn, line_of, Plan, header_line, turn_line, is_meant, line_limit, AreShort}
 use Rattle.ux_syntax.specs.Spelling.{FitsHeader, FitsTurn, NamesProcesses, is_off, asks_off, asks_fork, asks_recorded, MayAsk, known_count}
 use Rattle.ux_syntax.specs.Spelling.{EachKnowing, MayFork, NoneAfterExit, IsCall, SpellScript}
@@ -144,44 +145,13 @@ header_takes ls s l x h none no_off short says =
     subst (λ (y : Plan). SpellScript (ls ++ l ∷ []) y) same made
 
 -- no call that is written ends the whole layer
-is_no_end : (c : Written) → is_off (meaning c) ≡ false
-is_no_end (open_path path mode flags) = refl
-is_no_end (create_path path mode flags) = refl
-is_no_end (mem_fd flags) = refl
-is_no_end (event_fd value flags) = refl
-is_no_end (pipe flags) = refl
-is_no_end (read_fd fd n) = refl
-is_no_end (write_fd fd bytes) = refl
-is_no_end (seek fd offset whence) = refl
-is_no_end (dup_fd fd) = refl
-is_no_end (dup_onto fd other) = refl
-is_no_end (dup_above fd minimum) = refl
-is_no_end (get_flags fd) = refl
-is_no_end (set_flags fd flags) = refl
-is_no_end (close fd) = refl
-is_no_end (unlink_path path) = refl
-is_no_end (socket kind flags) = refl
-is_no_end (pair kind flags) = refl
-is_no_end (bind fd addr) = refl
-is_no_end (listen fd backlog) = refl
-is_no_end (connect fd addr) = refl
-is_no_end (accept fd flags) = refl
-is_no_end (shut fd how) = refl
-is_no_end (get_opt fd opt) = refl
-is_no_end (set_opt fd opt value) = refl
-is_no_end (sock_name fd) = refl
-is_no_end (peer_name fd) = refl
-is_no_end (send fd addr bytes control flags) = refl
-is_no_end (recv fd n space flags) = refl
-is_no_end (poll fd) = refl
-is_no_end (set_ids uid gid) = refl
-is_no_end fork = refl
-is_no_end exec = refl
-is_no_end exit = refl
+is_no_end : (word : CallWord) (row : Row (kinds word)) → is_off_word word ≡ false → is_off (request_of word row) ≡ false
+is_no_end CallWord.Off row h = absurd cc
+is_no_end word row h = refl
 
-asked_no_end : (a : Asked) → asks_off (act_of a) ≡ false
-asked_no_end (call c) = is_no_end c
-asked_no_end (wait pid calls) = refl
+asked_no_end : (a : Asked) → FitsAsked a → asks_off (act_of a) ≡ false
+asked_no_end (call c) f = is_no_end c.word (meant_row (kinds c.word) c.fields) f.0
+asked_no_end (wait pid calls) f = refl
 
 turn_takes : (ls : List (List ℕ)) (s : Plan) (l : List ℕ) (line : Line) → (h : SpellScript ls s) → s.off ≡ false → MayJoin s line →
     is_short s l → Says (Parsed.Line line) l → SpellScript (ls ++ l ∷ []) (with_line s line)
@@ -205,7 +175,7 @@ turn_takes ls s l line h no_off may short says =
         processes = known_more NamesProcesses (length s.procs) s.lines line h.orderly.processes may.names;
         forks = known_more (MayFork s.serial) (length s.procs) s.lines line h.orderly.forks may.forks;
         exits = exits_more s.lines line h.orderly.exits may.quiet;
-        calls = each_more IsCall s.lines line h.orderly.calls (ap (λ (x : Line). asks_off x.act) (sym w.1) ∙ asked_no_end w.0.asked);
+        calls = each_more IsCall s.lines line h.orderly.calls (ap (λ (x : Line). asks_off x.act) (sym w.1) ∙ asked_no_end w.0.asked w.3.1);
         recorded = each_more (MayAsk s.serial) s.lines line h.orderly.recorded may.asks;
       };
     }

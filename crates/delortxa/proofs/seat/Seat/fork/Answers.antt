@@ -1,6 +1,6 @@
 use Rattle.std.proofs.Common.{rules, ◌≡◌, ◌∙◌, sym, subst, false, None}
 use Rattle.ux_model.specs.Types.{Request, Reply}
-use Rattle.ux_laws.specs.ReplyKinds.{is_child}
+use Rattle.ux_model.specs.ReplyKinds.{is_child}
 use Rattle.ux_book.specs.declared.fault.CallFault.{CallFault}
 use Rattle.delortxa.specs.Answering.{IsOther}
 use Rattle.delortxa.specs.Happening.{Happens}

@@ -1,0 +1,3 @@
+pub mod Making
+mod SameRequests
+mod SameReplies

@@ -1,0 +1,102 @@
+-- Of each call that asks: it leaves the state as it was, and reports no number. All laws on what calls leave follow for it.
+use Rattle.std.proofs.Common.{◌≡◌, ℕ, true, false, None, refl, ap, sym, subst}
+use Rattle.std.proofs.lemmas.Bool.{false≢true}
+use Rattle.ux_model.specs.Types.{Errno, Fd, Request, Reply}
+use Rattle.ux_model.specs.Places.{place}
+use Rattle.ux_model.specs.State.{State}
+use Rattle.ux_model.specs.Outcome.{Outcome, Chosen, own, lacking_memory, failing, refuse, descriptor_at}
+use Rattle.ux_model.specs.Descriptors.{get_flags}
+use Rattle.ux_model.specs.Binding.{get_sock_name}
+use Rattle.ux_model.specs.Connecting.{get_peer_name}
+use Rattle.ux_model.specs.Readiness.{poll}
+use Rattle.ux_model.specs.Step.{outcome}
+use Rattle.ux_model.specs.Asking.{asks}
+use Rattle.ux_model.specs.Invariants.{LeftByRefusal}
+use Rattle.ux_model.proofs.Changes.Walk.{maybe, found, found_socket, found_peer}
+use Rattle.ux_model.proofs.Changes.Reaching.{May, Reaches, still}
+use Rattle.ux_model.proofs.Changes.HeldOpen.{same_objects}
+use Rattle.ux_model.proofs.Changes.Obeying.{failures, tells_choice, is_error, Obeys}
+use Rattle.ux_model.proofs.Tables.Replacing.{IsPlain, tells_child, tells_number}
+
+pub record Asks (S : State) (o : Outcome) : Type 0 where
+  pub next : o.next ≡ S
+  pub failure : o.failure ≡ None
+  pub own_reply : tells_choice o.reply ≡ false
+  pub refused : (e : Errno) → o.reply ≡ Reply.Err e → LeftByRefusal S e S
+  pub numberless : tells_number o.reply ≡ false
+  pub childless : tells_child o.reply ≡ false
+
+refuses : {S : State} {e : Errno} → tells_choice (Reply.Err e) ≡ false → LeftByRefusal S e S → Asks S (refuse S e)
+refuses {S} {e} own_one left = record {
+  next = refl;
+  failure = refl;
+  own_reply = own_one;
+  refused = λ f h. let same : e ≡ f = cc h in subst (λ g. LeftByRefusal S g S) same left;
+  numberless = refl;
+  childless = refl;
+}
+
+tells : {S : State} {o : Outcome} → o.next ≡ S → o.failure ≡ None → tells_choice o.reply ≡ false → is_error o.reply ≡ false →
+    tells_number o.reply ≡ false → tells_child o.reply ≡ false → Asks S o
+tells {S} {o} next failure own_one told numberless childless = record {
+  next = next;
+  failure = failure;
+  own_reply = own_one;
+  refused = λ e h. let one : is_error o.reply ≡ true = ap is_error h in absurd (cc (one, told));
+  numberless = numberless;
+  childless = childless;
+}
+
+-- ---- the calls
+
+get_flags_asks : (S : State) (p : ℕ) (fd : Fd) → Asks S (get_flags S p fd)
+unfolding get_flags
+get_flags_asks S p fd = found (Asks S) S p fd _ (refuses refl refl) (λ e D g h. tells refl refl refl refl refl refl)
+
+sock_name_asks : (S : State) (p : ℕ) (fd : Fd) → Asks S (get_sock_name S p fd)
+unfolding get_sock_name
+sock_name_asks S p fd = found_socket (Asks S) S p fd _ (refuses refl refl) (refuses refl refl)
+    (λ d s h. tells refl refl refl refl refl refl)
+
+peer_name_asks : (S : State) (p : ℕ) (fd : Fd) → Asks S (get_peer_name S p fd)
+unfolding get_peer_name
+peer_name_asks S p fd = found_socket (Asks S) S p fd _ (refuses refl refl) (refuses refl refl)
+    (λ d s h. found_peer (Asks S) S s.phase _ (refuses refl refl) (λ peer other there. tells refl refl refl refl refl refl))
+
+poll_asks : (S : State) (p : ℕ) (fd : Fd) → Asks S (poll S p fd)
+unfolding poll
+poll_asks S p fd = maybe (Asks S) (descriptor_at S p fd) _ _ (tells refl refl refl refl refl refl)
+    (λ e h. tells refl refl refl refl refl refl)
+
+pub each_asks : (S : State) (p tag : ℕ) (request : Request) → asks request ≡ true → Asks S (outcome S p tag request)
+unfolding outcome
+each_asks S p tag (Request.GetFlags fd) h = get_flags_asks S p fd
+each_asks S p tag (Request.GetSockName fd) h = sock_name_asks S p fd
+each_asks S p tag (Request.GetPeerName fd) h = peer_name_asks S p fd
+each_asks S p tag (Request.Poll fd) h = poll_asks S p fd
+each_asks S p tag request h = absurd (false≢true h)
+
+pub asking_plain : (request : Request) → asks request ≡ true → IsPlain request
+asking_plain (Request.GetFlags fd) h = record { no_end = refl; keeps = λ n held. refl }
+asking_plain (Request.GetSockName fd) h = record { no_end = refl; keeps = λ n held. refl }
+asking_plain (Request.GetPeerName fd) h = record { no_end = refl; keeps = λ n held. refl }
+asking_plain (Request.Poll fd) h = record { no_end = refl; keeps = λ n held. refl }
+asking_plain request h = absurd (false≢true h)
+
+-- ---- what follows
+
+pub asking_obeys : {S : State} {may : May} {o : Outcome} → Asks S o → Obeys S may o
+asking_obeys {S} {may} {o} a = record {
+  own_reply = a.own_reply;
+  refused = λ e h. subst (LeftByRefusal S e) (sym a.next) (a.refused e h);
+  failed = λ T h. absurd (cc (h, a.failure));
+  fails = λ T h. absurd (cc (h, a.failure));
+  reached = subst (Reaches S may) (sym a.next) still;
+  objects = same_objects S o.next (ap (λ (U : State). U.objects) a.next);
+  alike = λ n was. ap (λ (U : State). failures (place U.objects n)) a.next;
+}
+
+pub chosen_asked : (S T : State) (o : Outcome) (reply : Reply) → Asks S o → Chosen S o reply T → T ≡ S
+chosen_asked S T o reply a (own e f) = subst (λ (U : State). U ≡ S) (sym f) a.next
+chosen_asked S T o reply a (lacking_memory e may f) = f
+chosen_asked S T o reply a (failing e f) = absurd (cc (f, a.failure))
