@@ -1,6 +1,6 @@
 -- What a call does to descriptions, as far as Parts sees them: one case a kind of change, and what is known of the call then.
 use Rattle.std.proofs.Common.{◌≡◌, ◌⊎◌, ℕ, Bool, true, false, if◌then◌else◌, List, [], ◌∷◌, length, take, Option, Some, None, Ok, refl, ap}
-use Rattle.std.proofs.Common.{sym, ◌∙◌}
+use Rattle.std.proofs.Common.{sym, ◌∙◌, inl, ◌==◌, ◌&&◌}
 use Rattle.std.specs.Prelude.{ℤ}
 use Rattle.std.proofs.lemmas.Bool.{false≢true}
 use Rattle.ux_model.specs.Types.{Fd, Name, Addr, SockType, Mode, OpenFlags, Request, Reply}
@@ -20,7 +20,7 @@ use Rattle.ux_model.specs.Sending.{descriptions_behind}
 use Rattle.ux_model.specs.Giving.{sent_by}
 use Rattle.ux_model.proofs.Lists.ByPlace.{take_none}
 use Rattle.ux_laws.specs.Talking.{offered_bytes, request_addr, is_peek, taken_count, given_bytes, socket_through, goes_to, is_number}
-use Rattle.ux_laws.specs.Talking.{is_first, sends_to, receives_through}
+use Rattle.ux_laws.specs.Talking.{is_first, destination, sends_to, receives_through}
 use Rattle.ux_laws.specs.Files.{made_modes}
 use Rattle.ux_laws.specs.Streams.{sent_now, received_now}
 use Rattle.ux_laws.specs.Records.{is_count, is_given}
@@ -38,9 +38,10 @@ is_silent _ = true
 pub record MovesNothing (S : State) (p : ℕ) (request : Request) (reply : Reply) : Type 0 where
   pub bytes_out : (d : ℕ) → sent_now d S p request reply ≡ []
   pub bytes_in : (d : ℕ) → received_now d S p request reply ≡ []
-  -- What is taken all the same is nothing of a stream, and what is given where nothing waits.
+  -- What is taken all the same is nothing, which was offered to a stream, and what is given where nothing waits.
   pub record_out : (d : ℕ) → sends_to S d p request ≡ true → is_count reply ≡ true →
-      (t : Socket) × (socket_at S d ≡ Some t) × (is_stream t.kind ≡ true)
+      (t : Socket) × (socket_at S d ≡ Some t) × (is_stream t.kind ≡ true) × (offered_bytes request ≡ []) × (reply ≡ Reply.Count 0)
+  pub goes_out : is_count reply ≡ true → (socket_through S p request ≡ None) ⊎ ((t : ℕ) × (destination S p request ≡ Some t))
   pub record_in : (d : ℕ) → receives_through S d p request ≡ true → is_peek request ≡ false → is_given reply ≡ true →
       (s : Socket) × (socket_through S p request ≡ Some (d, s)) × (socket_at S d ≡ Some s) × ((s.queue ≡ []) ⊎ (is_stream s.kind ≡ true))
 
@@ -70,6 +71,7 @@ silent {S} {p} {request} {reply} h =
           (ap (λ n. take n (offered_bytes request)) counts.0 ∙ take_none (offered_bytes request));
       bytes_in = λ d. none_either (is_peek request) _ (either_none (receives_through S d p request) (given_bytes reply) gives.0);
       record_out = λ d to count. absurd (false≢true (sym counts.1 ∙ count));
+      goes_out = λ count. absurd (false≢true (sym counts.1 ∙ count));
       record_in = λ d by peek given. absurd (false≢true (sym gives.1 ∙ given));
     }
 
@@ -80,6 +82,7 @@ at_no_socket {S} {p} {request} {reply} h = record {
   bytes_out = λ d. ap (λ b. if b then take (taken_count reply) (offered_bytes request) else []) (nowhere d);
   bytes_in = λ d. none_either (is_peek request) _ (ap (λ b. if b then given_bytes reply else []) (by_none d));
   record_out = λ d to count. absurd (false≢true (sym (nowhere d) ∙ to));
+  goes_out = λ count. inl h;
   record_in = λ d by peek given. absurd (false≢true (sym (by_none d) ∙ by));
 }
   where
@@ -108,6 +111,7 @@ pub record IsSending (S : State) (p tag : ℕ) (request : Request) (reply : Repl
   pub from : m.from ≡ (if is_dgram socket.kind then Some socket.name else None)
   pub answered : reply ≡ Reply.Count (length (sent_part target m).bytes)
   pub room : has_room target ≡ true
+  pub some : (is_stream target.kind && (length m.bytes == 0)) ≡ false
 
 pub record IsTaking (S : State) (p : ℕ) (request : Request) (reply : Reply) (d n : ℕ) (s : Socket) (m : Message) (ms : List Message) : Type
     0 where

@@ -62,7 +62,7 @@ rest_bytes (suc n) (m ∷ ms) = go (rest_bytes (suc n - length m.bytes) ms) (nat
         sym (drop-append-le (suc n) m.bytes (all_bytes ms) (omega (arith, lt)))
 
 -- what is taken and what is left are the whole
-front_bytes : (wants : Bool) (n : ℕ) (m : Message) (ms : List Message) →
+pub front_bytes : (wants : Bool) (n : ℕ) (m : Message) (ms : List Message) →
     (stream_front wants n m ms).bytes ++ all_bytes (stream_front wants n m ms).rest ≡ all_bytes (m ∷ ms)
 front_bytes wants n m ms =
     let run : List Message = joined_run wants m ms in

@@ -241,12 +241,10 @@ gone_after S T p tag request reply d did known none = go (description_at T d) re
 
 -- ---- a peer that is gone
 
--- a peer has a number that was given before
-pub peer_known : (boot : State) (es : List Entry) (j d peer : ℕ) (s : Socket) → IsLegal boot es → socket_at (before boot es j) d ≡ Some s →
-    peer_of s.phase ≡ Some peer → peer < length (before boot es j).descriptions
-peer_known boot es j d peer s legal there is =
-    (nothing_dangles boot (take j es) (front_is_legal boot es j legal)).connections_mutual.known d peer
-    (at_place (description_at (before boot es j) d) there)
+-- the peer, by the description
+pub peer_seen : (S : State) (d peer : ℕ) (s : Socket) → socket_at S d ≡ Some s → peer_of s.phase ≡ Some peer →
+    peer_in (description_at S d) ≡ Some peer
+peer_seen S d peer s there is = at_place (description_at S d) there
   where
     at_target : (t : Target) → socket_of t ≡ Some s → target_peer t ≡ Some peer
     at_target (to_object o) h = absurd (cc h)
@@ -255,6 +253,13 @@ peer_known boot es j d peer s legal there is =
     at_place : (x : Option Description) → socket_in x ≡ Some s → peer_in x ≡ Some peer
     at_place None h = absurd (cc h)
     at_place (Some D) h = at_target D.target h
+
+-- a peer has a number that was given before
+pub peer_known : (boot : State) (es : List Entry) (j d peer : ℕ) (s : Socket) → IsLegal boot es → socket_at (before boot es j) d ≡ Some s →
+    peer_of s.phase ≡ Some peer → peer < length (before boot es j).descriptions
+peer_known boot es j d peer s legal there is =
+    (nothing_dangles boot (take j es) (front_is_legal boot es j legal)).connections_mutual.known d peer
+    (peer_seen (before boot es j) d peer s there is)
 
 pub socket_known : (S : State) (d : ℕ) (s : Socket) → socket_at S d ≡ Some s → d < length S.descriptions
 socket_known S d s there = at_place (description_at S d) refl there
@@ -331,7 +336,7 @@ ended_step S T p tag d request reply gone u t step e known there =
 -- ---- for ever
 
 -- a socket that is there was there before, once it was made
-was_there : (S T : State) (p tag : ℕ) (request : Request) (reply : Reply) (d : ℕ) (t : Socket) → Did S p tag request reply T →
+pub was_there : (S T : State) (p tag : ℕ) (request : Request) (reply : Reply) (d : ℕ) (t : Socket) → Did S p tag request reply T →
     d < length S.descriptions → socket_at T d ≡ Some t → (u : Socket) × (socket_at S d ≡ Some u)
 was_there S T p tag request reply d t did known there = ⊎_elim {C = (u : Socket) × (socket_at S d ≡ Some u)}
     (λ w. let s = socket_seen S d w.0 w.1 in (s.0, s.1))

@@ -230,6 +230,13 @@ shrunk_waits V T d k m sh h = ⊎_elim {C = slice_get (waiting_at V d) k ≡ Som
     (λ none. let nowhere : slice_get [] k ≡ Some m = sym (ap (λ (g : Glance). slice_get (waiting_in g.0) k) none) ∙ h in
     absurd (cc nowhere)) (sh.each d)
 
+-- a queue of a socket that is there still
+pub still_waits : (V T : State) (d : ℕ) (t : Socket) → Shrinks V T → socket_at T d ≡ Some t → t.queue ≡ waiting_at V d
+still_waits V T d t sh there = sym (waiting_is T d t there) ∙ ⊎_elim {C = waiting_at T d ≡ waiting_at V d}
+    (λ same. ap (λ (g : Glance). waiting_in g.0) same)
+    (λ gone. let clash : Some (socket_parts t) ≡ None = sym (ap (λ (g : Glance). g.0) (glance_socket T d t there))
+    ∙ ap (λ (g : Glance). g.0) gone in absurd (cc clash)) (sh.each d)
+
 -- the queue of the socket that was changed, and the others
 pub changed_waiting : (S : State) (t d : ℕ) (change : Socket → Socket) (s : Socket) → socket_at S t ≡ Some s →
     waiting_at (with_socket_by S t change) d ≡ cond (t == d) (change s).queue (waiting_at S d)

@@ -19,14 +19,22 @@ pub mod Installing
 pub mod Spent
 pub mod Near
 pub mod LeftAlone
+pub mod OwnNames
 pub mod NamesLeft
 pub mod Ended
 pub mod Telling
 pub mod Resetting
+pub mod NoEmpty
+pub mod Inputs
 pub mod WaitEnds
 pub mod AcceptWaits
 pub mod SendWaits
 pub mod ConnectWaits
+pub mod Connections
+pub mod Sends
+pub mod Writes
+pub mod Offsets
+pub mod Openings
 pub mod Unprivileged
 mod Play
 mod StreamExample
@@ -34,6 +42,8 @@ mod RecordExample
 mod RightsExample
 mod CredentialExample
 mod FileExample
+mod WriteExample
 mod EndExample
+mod InputExample
 mod ReachExample
 mod WaitExample

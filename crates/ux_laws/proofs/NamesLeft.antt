@@ -1,8 +1,8 @@
 -- What a call does to names: it binds or takes away those that it gives, and those of sockets that it frees go.
 use Rattle.std.proofs.Common.{◌≡◌, ◌⊎◌, ℕ, zero, suc, ◌==◌, Bool, true, false, not, ◌||◌, if◌then◌else◌, cond, List, [], ◌∷◌, ◌++◌, length}
-use Rattle.std.proofs.Common.{filter, Some, None, option_map, refl, ap, sym, ◌∙◌, subst, slice_get, inl, inr, ⊎_elim, Option}
+use Rattle.std.proofs.Common.{filter, Some, None, Ok, option_map, refl, ap, sym, ◌∙◌, subst, slice_get, inl, inr, ⊎_elim, Option}
 use Rattle.std.specs.Prelude.{is_some}
-use Rattle.std.proofs.lemmas.Bool.{false≢true}
+use Rattle.std.proofs.lemmas.Bool.{false≢true, eqb-false}
 use Rattle.ux_model.specs.Types.{Fd, Name, Addr, SockOpt, Request, Reply, Entry, Mode, OpenFlags}
 use Rattle.ux_model.specs.Object.{memory}
 use Rattle.ux_model.specs.Names.{PathTarget, bound, same_name, named, without_name, is_valid_path, is_valid_addr, is_unnamed_addr}
@@ -10,7 +10,7 @@ use Rattle.ux_model.specs.Names.{free_name, file}
 use Rattle.ux_model.specs.Socket.{Socket, is_stream, tied_socket}
 use Rattle.ux_model.specs.Process.{Descriptor, lowest_free}
 use Rattle.ux_model.specs.State.{State, description_at, table_of, with_table, with_new}
-use Rattle.ux_model.specs.Outcome.{Outcome, Chosen, own, lacking_memory, failing}
+use Rattle.ux_model.specs.Outcome.{Outcome, Chosen, own, lacking_memory, failing, find_socket}
 use Rattle.ux_model.specs.Naming.{unlink}
 use Rattle.ux_model.specs.Binding.{bind_to, bind}
 use Rattle.ux_model.specs.Opening.{file_description}
@@ -29,9 +29,13 @@ use Rattle.ux_model.proofs.Releasing.ReleaseLaws.{description_at-without}
 use Rattle.ux_model.proofs.Lists.Rising.{place_mapped}
 use Rattle.ux_model.proofs.Steps.Calls.{each_obeys}
 use Rattle.ux_model.proofs.Pedigrees.Moments.{moment}
+use Rattle.ux_model.proofs.Tables.Shows.{by_socket}
+use Rattle.ux_laws.specs.OwnNames.{IsNewName, of_abstract, autobound, NamesIt, by_bind, by_passcred, AbstractNamesAreAsked}
 use Rattle.ux_laws.specs.Reach.{is_path, names_path, CallsLeavePathsAlone, AbstractNamesStay, AbstractNamesAreBound}
 use Rattle.ux_laws.proofs.Touching.Tables.{table_alike}
-use Rattle.ux_laws.proofs.Near.Leading.{by_own}
+use Rattle.ux_laws.proofs.Near.Leading.{own_number}
+use Rattle.ux_laws.proofs.Makers.{behind_is}
+use Rattle.ux_laws.proofs.OwnNames.{none_listed}
 use Rattle.ux_laws.proofs.LeftAlone.{Lost, stays_gone, rounds_lost, settled_lost}
 use Rattle.ux_laws.proofs.Touching.Contents.{NamesSame}
 use Rattle.ux_laws.proofs.Touching.Calls.{each_names}
@@ -74,9 +78,9 @@ own_of_none mine name (e ∷ es) h = go (same_name e.0 name) (own_of_none mine n
     go true rest h = absurd (cc h)
     go false rest h = (λ is. absurd (false≢true is), rest h)
 
-own_pushed : (mine : ℕ → Type 0) (name : Name) (es : List (Name × ℕ)) (x : Name × ℕ) → mine x.1 → OwnNames mine name es →
-    OwnNames mine name (es ++ x ∷ [])
-own_pushed mine name [] x h all = (λ is. h, tt)
+own_pushed : (mine : ℕ → Type 0) (name : Name) (es : List (Name × ℕ)) (x : Name × ℕ) → (same_name x.0 name ≡ true → mine x.1) →
+    OwnNames mine name es → OwnNames mine name (es ++ x ∷ [])
+own_pushed mine name [] x h all = (h, tt)
 own_pushed mine name (e ∷ es) x h all = (all.0, own_pushed mine name es x h all.1)
 
 own_kept : (mine : ℕ → Type 0) (name : Name) (keep : Name × ℕ → Bool) (es : List (Name × ℕ)) → OwnNames mine name es →
@@ -139,19 +143,22 @@ named_left name path (e ∷ es) other = by_name (same_name e.0 name) refl (named
 
 -- ---- a call
 
-abbrev HasHere : State → ℕ → ℕ → Type 0
-HasHere S p d = (n : ℕ) × (description_of S p n ≡ Some d)
+-- the call gives socket d, which a number of its process leads to, this name
+record IsAsked (S : State) (p : ℕ) (request : Request) (name : Name) (d : ℕ) : Type 0 where
+  pub number : ℕ
+  pub leads : description_of S p number ≡ Some d
+  pub gives : NamesIt S p request d (Addr.Abstract name)
 
 record NamesLeft (S : State) (p : ℕ) (request : Request) (U : State) : Type 0 where
   pub stay : (name : Name) (d : ℕ) → named name S.abstract_names ≡ Some d →
       (named name U.abstract_names ≡ Some d) ⊎ (description_at U d ≡ None)
-  pub mine : (name : Name) → named name S.abstract_names ≡ None → OwnNames (HasHere S p) name U.abstract_names
+  pub mine : (name : Name) → named name S.abstract_names ≡ None → OwnNames (IsAsked S p request name) name U.abstract_names
   pub paths : (path : Name) → names_path request path ≡ false → named path U.paths ≡ named path S.paths
 
 by_same : {S : State} {p : ℕ} {request : Request} {U : State} → NamesSame S U → NamesLeft S p request U
 by_same {S} {p} {request} {U} k = record {
   stay = λ name d h. inl (ap (λ l. named name l) k.abstracts ∙ h);
-  mine = λ name none. own_of_none (HasHere S p) name U.abstract_names (ap (λ l. named name l) k.abstracts ∙ none);
+  mine = λ name none. own_of_none (IsAsked S p request name) name U.abstract_names (ap (λ l. named name l) k.abstracts ∙ none);
   paths = λ path other. ap (λ l. named path l) k.paths;
 }
 
@@ -160,34 +167,45 @@ unchanged : {S : State} {p : ℕ} {request : Request} {U : State} → U.abstract
 unchanged h k = by_same (record { paths = k; abstracts = h })
 
 -- one more name of the abstract namespace, of a socket of the caller's own
-one_bound : {S : State} {p : ℕ} {request : Request} (U : State) (name : Name) (d n : ℕ) → description_of S p n ≡ Some d →
+one_bound : {S : State} {p : ℕ} {request : Request} (U : State) (name : Name) (d : ℕ) → IsAsked S p request name d →
     U.abstract_names ≡ S.abstract_names ++ (name, d) ∷ [] → U.paths ≡ S.paths → NamesLeft S p request U
-one_bound {S} {p} {request} U name d n mine is same = record {
+one_bound {S} {p} {request} U name d asked is same = record {
   stay = λ x k h. inl (ap (λ l. named x l) is ∙ named_front x S.abstract_names (name, d) k h);
-  mine = λ x none. subst (OwnNames (HasHere S p) x) (sym is)
-      (own_pushed (HasHere S p) x S.abstract_names (name, d) (n, mine) (own_of_none (HasHere S p) x S.abstract_names none));
+  mine = λ x none. subst (OwnNames (IsAsked S p request x) x) (sym is)
+      (own_pushed (IsAsked S p request x) x S.abstract_names (name, d)
+      (λ alike. subst (λ (y : Name). IsAsked S p request y d) (names_equal name x alike) asked)
+      (own_of_none (IsAsked S p request x) x S.abstract_names none));
   paths = λ path other. ap (λ l. named path l) same;
 }
 
 bind_left : (S : State) (p : ℕ) (fd : Fd) (addr : Addr) → NamesLeft S p (Request.Bind fd addr) (bind S p fd addr).next
 unfolding bind
-bind_left S p fd addr = by_own Q S p (Request.Bind fd addr) fd _ (λ e. unchanged refl refl)
-    (λ d s mine there. either Q (not (is_unnamed_addr s.name) || not (is_valid_addr addr)) _ _ (λ b. unchanged refl refl)
-    (λ b. to d mine addr refl))
+bind_left S p fd addr = by_socket Q S p fd _ (λ e. unchanged refl refl)
+    (λ d s found there. either Q (not (is_unnamed_addr s.name) || not (is_valid_addr addr)) _ _ (λ b. unchanged refl refl)
+    (λ b. to d s found addr refl))
   where
     Q : Outcome → Type 0
     Q o = NamesLeft S p (Request.Bind fd addr) o.next
 
-    to : (d : ℕ) → description_of S p fd.0 ≡ Some d → (a : Addr) → addr ≡ a → Q (bind_to S d a)
-    to d mine Addr.Unnamed is = maybe Q (free_name S.abstract_names) _ _ (unchanged refl refl)
-        (λ name h. one_bound _ name d fd.0 mine refl refl)
-    to d mine (Addr.Path name) is = either Q (is_some (named name S.paths)) _ _ (λ b. unchanged refl refl) (λ b. record {
+    asked : (d : ℕ) (s : Socket) → find_socket S p fd ≡ Ok (d, s) → (name : Name) → IsNewName S addr (Addr.Abstract name) →
+        IsAsked S p (Request.Bind fd addr) name d
+    asked d s found name new_name = record {
+      number = fd.0;
+      leads = own_number S p d fd s found;
+      gives = by_bind fd addr refl (behind_is S p d fd s found) new_name;
+    }
+
+    to : (d : ℕ) (s : Socket) → find_socket S p fd ≡ Ok (d, s) → (a : Addr) → addr ≡ a → Q (bind_to S d a)
+    to d s found Addr.Unnamed is = maybe Q (free_name S.abstract_names) _ _ (unchanged refl refl)
+        (λ name h. one_bound _ name d (asked d s found name (autobound name is h refl)) refl refl)
+    to d s found (Addr.Path name) is = either Q (is_some (named name S.paths)) _ _ (λ b. unchanged refl refl) (λ b. record {
       stay = λ x k h. inl h;
-      mine = λ x none. own_of_none (HasHere S p) x S.abstract_names none;
+      mine = λ x none. own_of_none (IsAsked S p (Request.Bind fd addr) x) x S.abstract_names none;
       paths = λ path other. named_other path S.paths (name, bound d) (sym (ap (λ (y : Addr). is_path y path) is) ∙ other);
     })
-    to d mine (Addr.Abstract name) is = either Q (is_some (named name S.abstract_names)) _ _ (λ b. unchanged refl refl)
-        (λ b. one_bound _ name d fd.0 mine refl refl)
+    to d s found (Addr.Abstract name) is = either Q (is_some (named name S.abstract_names)) _ _ (λ b. unchanged refl refl)
+        (λ b. one_bound _ name d
+        (asked d s found name (of_abstract name is (none_listed (named name S.abstract_names) b) (sym is))) refl refl)
 
 create_left : (S : State) (p : ℕ) (path : Name) (mode : Mode) (flags : OpenFlags) →
     NamesLeft S p (Request.Create path mode flags) (create_file S p path mode flags).next
@@ -208,7 +226,7 @@ create_left S p path mode flags = either Q (not (is_valid_path path)) _ _ (λ b.
         (file_description (next_object S) mode flags)) p table in
         record {
           stay = λ x d h. inl (ap (λ l. named x l) t.abstracts ∙ h);
-          mine = λ x none. own_of_none (HasHere S p) x _ (ap (λ l. named x l) t.abstracts ∙ none);
+          mine = λ x none. own_of_none (IsAsked S p (Request.Create path mode flags) x) x _ (ap (λ l. named x l) t.abstracts ∙ none);
           paths = λ other elsewhere. ap (λ l. named other l) t.paths ∙ named_other other S.paths (path, file (next_object S)) elsewhere;
         }
 
@@ -217,7 +235,7 @@ unfolding unlink
 unlink_left S p path = either Q (not (is_valid_path path)) _ _ (λ b. unchanged refl refl)
     (λ b. either Q (not (is_some (named path S.paths))) _ _ (λ b. unchanged refl refl) (λ b. record {
       stay = λ x k h. inl h;
-      mine = λ x none. own_of_none (HasHere S p) x S.abstract_names none;
+      mine = λ x none. own_of_none (IsAsked S p (Request.Unlink path) x) x S.abstract_names none;
       paths = λ other elsewhere. named_left path other S.paths elsewhere;
     }))
   where
@@ -227,21 +245,25 @@ unlink_left S p path = either Q (not (is_valid_path path)) _ _ (λ b. unchanged 
 set_opt_left : (S : State) (p : ℕ) (fd : Fd) (opt : SockOpt) (value : ℕ) →
     NamesLeft S p (Request.SetOpt fd opt value) (set_opt S p fd opt value).next
 unfolding set_opt
-set_opt_left S p fd opt value = by_own Q S p (Request.SetOpt fd opt value) fd _ (λ e. unchanged refl refl)
-    (λ d s mine there. by_option d mine s opt)
+set_opt_left S p fd opt value = by_socket Q S p fd _ (λ e. unchanged refl refl) (λ d s found there. by_option d s found opt refl)
   where
     Q : Outcome → Type 0
     Q o = NamesLeft S p (Request.SetOpt fd opt value) o.next
 
-    by_option : (d : ℕ) → description_of S p fd.0 ≡ Some d → (s : Socket) (o : SockOpt) → Q (change_option S d s value o)
-    by_option d mine s SockOpt.Kind = unchanged refl refl
-    by_option d mine s SockOpt.Error = unchanged refl refl
-    by_option d mine s SockOpt.PassCred = either Q (value == 0) _ _ (λ b. unchanged refl refl)
-        (λ b. either Q (not (is_unnamed_addr s.name) || is_some (tied_socket s.phase)) _ _ (λ b. unchanged refl refl)
-        (λ b. maybe Q (free_name S.abstract_names) _ _ (unchanged refl refl) (λ name free. one_bound _ name d fd.0 mine refl refl)))
-    by_option d mine s SockOpt.PeerCred = unchanged refl refl
-    by_option d mine s SockOpt.AcceptConn = unchanged refl refl
-    by_option d mine s SockOpt.QueueLimit = either Q (not (is_stream s.kind)) _ _ (λ b. unchanged refl refl)
+    by_option : (d : ℕ) (s : Socket) → find_socket S p fd ≡ Ok (d, s) → (o : SockOpt) → opt ≡ o → Q (change_option S d s value o)
+    by_option d s found SockOpt.Kind is = unchanged refl refl
+    by_option d s found SockOpt.Error is = unchanged refl refl
+    by_option d s found SockOpt.PassCred is = either Q (value == 0) _ _ (λ b. unchanged refl refl)
+        (λ some. either Q (not (is_unnamed_addr s.name) || is_some (tied_socket s.phase)) _ _ (λ b. unchanged refl refl)
+        (λ b. maybe Q (free_name S.abstract_names) _ _ (unchanged refl refl) (λ name free. one_bound _ name d (record {
+          number = fd.0;
+          leads = own_number S p d fd s found;
+          gives = by_passcred fd value (ap (λ (o : SockOpt). Request.SetOpt fd o value) is) (eqb-false value 0 some)
+              (behind_is S p d fd s found) (autobound name refl free refl);
+        }) refl refl)))
+    by_option d s found SockOpt.PeerCred is = unchanged refl refl
+    by_option d s found SockOpt.AcceptConn is = unchanged refl refl
+    by_option d s found SockOpt.QueueLimit is = either Q (not (is_stream s.kind)) _ _ (λ b. unchanged refl refl)
         (λ b. either Q (not (may_limit value)) _ _ (λ c. unchanged refl refl) (λ c. unchanged refl refl))
 
 off_left : (S : State) (p : ℕ) → NamesLeft S p Request.Off (off S).next
@@ -352,5 +374,13 @@ pub abstract_names_are_bound : AbstractNamesAreBound
 abstract_names_are_bound boot es j d e name legal at none h =
     let w = moved boot es j e legal at in
     let T = before boot es (suc j) in
-    own_found (HasHere (before boot es j) e.pid.0) name T.abstract_names d
-    (w.end.mine (HasHere (before boot es j) e.pid.0) name (w.call.mine name none)) h
+    let a = own_found (IsAsked (before boot es j) e.pid.0 e.request name) name T.abstract_names d
+    (w.end.mine (IsAsked (before boot es j) e.pid.0 e.request name) name (w.call.mine name none)) h in
+    (a.number, a.leads)
+
+pub abstract_names_are_asked : AbstractNamesAreAsked
+abstract_names_are_asked boot es j d e name legal at none h =
+    let w = moved boot es j e legal at in
+    let T = before boot es (suc j) in
+    (own_found (IsAsked (before boot es j) e.pid.0 e.request name) name T.abstract_names d
+    (w.end.mine (IsAsked (before boot es j) e.pid.0 e.request name) name (w.call.mine name none)) h).gives

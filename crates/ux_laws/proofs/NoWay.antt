@@ -70,7 +70,7 @@ behind_leads S p fd o h = by_descriptor (descriptor_at S p fd) refl h
     by_descriptor None is h = absurd (cc h)
     by_descriptor (Some e) is h = by_description e is (description_at S e.description) refl h
 
-leads_behind : (S : State) (p : ℕ) (fd : Fd) (o : ℕ) → LeadsToObject S p fd o → object_behind S p fd ≡ Some o
+pub leads_behind : (S : State) (p : ℕ) (fd : Fd) (o : ℕ) → LeadsToObject S p fd o → object_behind S p fd ≡ Some o
 leads_behind S p fd o l =
     ap (λ (x : Option Descriptor). object_led
     (if_found (elim x as (λ _. Result (Descriptor × Description) Errno)

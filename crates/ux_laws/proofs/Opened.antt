@@ -200,7 +200,7 @@ made_more boot es i (suc m) legal low within = bool_cases (i == suc m)
     omega (arith, so_far, one))
 
 -- one that was made before led there from then on
-led_before : (boot : State) (es : List Entry) (i m d : ℕ) (x : ℕ × Mode) → IsLegal boot es → i ≤ m → m ≤ length es →
+pub led_before : (boot : State) (es : List Entry) (i m d : ℕ) (x : ℕ × Mode) → IsLegal boot es → i ≤ m → m ≤ length es →
     d < length (before boot es i).descriptions → Leads (before boot es m) d x → Leads (before boot es i) d x
 led_before boot es i zero d x legal low within known h = let same : i ≡ zero = omega (arith, low) in
     subst (λ (k : ℕ). Leads (before boot es k) d x) (sym same) h

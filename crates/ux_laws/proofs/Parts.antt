@@ -228,7 +228,7 @@ glance_changed S t d change s there =
     go true h = at_place (description_at S d) (sym (ap (λ (k : ℕ). socket_at S k) (eqb-true t d h)) ∙ there)
     go false h = refl
 
-pushed_here : {X : Type 0} (ds : List (Option X)) (x : Option X) → place (ds ++ x ∷ []) (length ds) ≡ x
+pub pushed_here : {X : Type 0} (ds : List (Option X)) (x : Option X) → place (ds ++ x ∷ []) (length ds) ≡ x
 pushed_here [] x = refl
 pushed_here (y ∷ ds) x = pushed_here ds x
 

@@ -9,14 +9,14 @@ use Rattle.ux_model.specs.Limits.{read_limit}
 use Rattle.ux_model.specs.Flags.{are_receive_flags, no_flags}
 use Rattle.ux_model.specs.Message.{Message}
 use Rattle.ux_model.specs.Front.{Front, front_of}
-use Rattle.ux_model.specs.Socket.{Socket, is_stream, peer_of, with_reset}
+use Rattle.ux_model.specs.Socket.{Socket, is_stream, is_dgram, peer_of, with_reset}
 use Rattle.ux_model.specs.Description.{Description, Target, to_object, to_socket, socket_of, socket_in, changed, changed_target}
 use Rattle.ux_model.specs.Process.{Process, Descriptor, own_cred}
 use Rattle.ux_model.specs.State.{State, process_at, description_at, socket_at, with_socket_by}
 use Rattle.ux_model.specs.Outcome.{Outcome, Chosen, own, lacking_memory, failing, refuse, answer, find_description, find_socket, as_process}
 use Rattle.ux_model.specs.Release.{settled}
 use Rattle.ux_model.specs.Sending.{sending, message_of, flight_limit, send_connected, send_stream, send_datagram, write_socket, is_too_long}
-use Rattle.ux_model.specs.Sending.{enqueue}
+use Rattle.ux_model.specs.Sending.{send_to_peer, enqueue}
 use Rattle.ux_model.specs.FileObjects.{on_object}
 use Rattle.ux_model.specs.Receiving.{Incoming, incoming, receive_front, nothing_received, at_end, receive_nothing, receive_connected}
 use Rattle.ux_model.specs.Receiving.{receive_from_peer, receive_datagram, receive, recv_msg, bytes_alone, read_socket}
@@ -96,21 +96,25 @@ has_process S p fd e D h = go (process_at S p) refl h
 
 -- ---- a write
 
-write_broken : (S : State) (p tag d : ℕ) (fd : Fd) (bytes : List ℕ) (s : Socket) → LeadsToSocket S p fd d s → HasEnded S d s →
-    write S p tag fd bytes ≡ refuse S Errno.EPIPE
+-- through a connected socket it is a send to the peer
+pub write_to_peer : (S : State) (p tag d peer : ℕ) (fd : Fd) (bytes : List ℕ) (s : Socket) → LeadsToSocket S p fd d s →
+    is_dgram s.kind ≡ false → peer_of s.phase ≡ Some peer →
+    (P : Process) × (process_at S p ≡ Some P) × (write S p tag fd bytes ≡ send_to_peer S (flight_limit P) s.write_shut peer
+    (message_of (sending tag p P None bytes) (own_cred p P) []))
 unfolding write
-write_broken S p tag d fd bytes s l e =
-    let P = has_process S p fd l.entry l.description l.found in
-    let nobody : socket_at S e.peer ≡ None = ap socket_in e.gone in
-    ap (λ (r : Result (Descriptor × Description) Errno). elim r as
-    (λ _. Outcome) [ Err x ↦ refuse S x | Ok w ↦ by_target w.0 w.1 w.1.target ]) l.found
-    ∙ ap (λ (t : Target). by_target l.entry l.description t) l.leads
-    ∙ ap (λ (o : Option Process). elim o as (λ _. Outcome)
-    [ None ↦ refuse S Errno.ESRCH | Some Q ↦ write_socket S (sending tag p Q None bytes) l.entry.description s ]) P.1
-    ∙ ap (λ b. if b then send_datagram S (flight_limit P.0) l.entry.description s None (m P.0)
-    else send_stream S (flight_limit P.0) s.write_shut (peer_of s.phase) None (m P.0)) e.kind
-    ∙ ap (λ (o : Option ℕ). send_connected S (flight_limit P.0) s.write_shut o (m P.0)) e.connected
-    ∙ ap (to_one P.0) nobody
+write_to_peer S p tag d peer fd bytes s l kind to =
+    let P = has_process S p fd l.entry l.description l.found in (
+      P.0,
+      P.1,
+      ap (λ (r : Result (Descriptor × Description) Errno). elim r as
+          (λ _. Outcome) [ Err x ↦ refuse S x | Ok w ↦ by_target w.0 w.1 w.1.target ]) l.found
+          ∙ ap (λ (t : Target). by_target l.entry l.description t) l.leads
+          ∙ ap (λ (o : Option Process). elim o as (λ _. Outcome)
+          [ None ↦ refuse S Errno.ESRCH | Some Q ↦ write_socket S (sending tag p Q None bytes) l.entry.description s ]) P.1
+          ∙ ap (λ b. if b then send_datagram S (flight_limit P.0) l.entry.description s None (m P.0)
+          else send_stream S (flight_limit P.0) s.write_shut (peer_of s.phase) None (m P.0)) kind
+          ∙ ap (λ (o : Option ℕ). send_connected S (flight_limit P.0) s.write_shut o (m P.0)) to,
+    )
   where
     m : Process → Message
     m P = message_of (sending tag p P None bytes) (own_cred p P) []
@@ -121,17 +125,25 @@ write_broken S p tag d fd bytes s l e =
       | to_socket u ↦ as_process S p (λ Q. write_socket S (sending tag p Q None bytes) x.description u)
     ]
 
+-- and breaks the pipe where that is gone
+write_broken : (S : State) (p tag d : ℕ) (fd : Fd) (bytes : List ℕ) (s : Socket) → LeadsToSocket S p fd d s → HasEnded S d s →
+    write S p tag fd bytes ≡ refuse S Errno.EPIPE
+write_broken S p tag d fd bytes s l e =
+    let w = write_to_peer S p tag d e.peer fd bytes s l e.kind e.connected in
+    let nobody : socket_at S e.peer ≡ None = ap socket_in e.gone in
+    w.2 ∙ ap (to_one w.0) nobody
+  where
     to_one : Process → Option Socket → Outcome
     to_one P o = elim o as (λ _. Outcome) [
       | None ↦ refuse S Errno.EPIPE
       | Some other ↦
           if s.write_shut || other.read_shut then refuse S Errno.EPIPE else
-          if is_too_long other (m P) then refuse S Errno.EMSGSIZE else
-          enqueue S (flight_limit P) e.peer other (m P)
+          if is_too_long other (message_of (sending tag p P None bytes) (own_cred p P) []) then refuse S Errno.EMSGSIZE else
+          enqueue S (flight_limit P) e.peer other (message_of (sending tag p P None bytes) (own_cred p P) [])
     ]
 
 -- the call makes no choice then
-chosen_refusal : (S T : State) (o : Outcome) (e : Errno) (reply : Reply) → o ≡ refuse S e → Chosen S o reply T → reply ≡ Reply.Err e
+pub chosen_refusal : (S T : State) (o : Outcome) (e : Errno) (reply : Reply) → o ≡ refuse S e → Chosen S o reply T → reply ≡ Reply.Err e
 chosen_refusal S T o e reply is (own r f) = r ∙ ap (λ (x : Outcome). x.reply) is
 chosen_refusal S T o e reply is (lacking_memory r may f) = let no : IsTrue false =
     subst IsTrue (ap (λ (x : Outcome). x.may_lack_memory) is) may in absurd (cc no)
@@ -204,11 +216,11 @@ comes S p d s asked some e = by_queue s.queue refl
     by_queue (m ∷ ms) is = from_queue m ms is (opened ∙ ap of_queue is)
 
 -- of the front, with or without what only recvmsg reports
-record IsFrontReply (reply : Reply) (front : Front) : Type 0 where
+pub record IsFrontReply (reply : Reply) (front : Front) : Type 0 where
   pub gives : is_given reply ≡ true
   pub bytes : given_bytes reply ≡ front.bytes
 
-front_reply : (S : State) (p d : ℕ) (s : Socket) (asked : Incoming) (front : Front) →
+pub front_reply : (S : State) (p d : ℕ) (s : Socket) (asked : Incoming) (front : Front) →
     IsFrontReply (receive_front S p d s asked front).reply front
     × IsFrontReply (bytes_alone (receive_front S p d s asked front).reply) front × ((receive_front S p d s asked front).failure ≡ None)
 unfolding receive_front

@@ -62,7 +62,7 @@ no_way_in_front boot es j allows o p n legal known never way = by_first way.begi
     by_first (by_making making) = not_made boot (take j es) allows o way.first (front_is_legal boot es j legal) known making
 
 -- what has bytes at the start is a file object of the start
-known_at_first : (S : State) (o : ℕ) (body : Body) → body_at S o ≡ Some body → o < length S.objects
+pub known_at_first : (S : State) (o : ℕ) (body : Body) → body_at S o ≡ Some body → o < length S.objects
 known_at_first S o body h = go (place S.objects o) refl h
   where
     go : (x : Option View) → place S.objects o ≡ x → body_in x ≡ Some body → o < length S.objects

@@ -8,6 +8,11 @@ pub mod Beginning
 pub mod Separation
 pub mod Records
 pub mod Rights
+pub mod OwnNames
 pub mod Reach
 pub mod Ends
+pub mod Inputs
+pub mod Connections
+pub mod Sends
+pub mod Writes
 pub mod Waits

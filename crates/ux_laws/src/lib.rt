@@ -8,9 +8,16 @@ ghost use Rattle.ux_laws.specs.Waits.{AcceptsWait, AcceptWaitsEnd, ConnectsWait,
 ghost use Rattle.ux_laws.specs.Credentials.{CredentialsAreTheSenders, PeersAreTheMakers};
 ghost use Rattle.ux_laws.specs.Ends.{EndsAreForEver, ResetsAreOfLosses, LossesReset, SendsFindNobody, WritesBreak};
 ghost use Rattle.ux_laws.specs.Ends.{ReadsTellTheEnd, ReceivesTellTheEnd};
+ghost use Rattle.ux_laws.specs.Inputs.{ReadsEndTruly, ReceivesEndTruly, ReceivesGiveTheFirst, ReadsGiveTheFirst, PeeksTakeNothing};
+ghost use Rattle.ux_laws.specs.Inputs.{EmptyQueuesGiveNothing, EmptyQueuesReadAsNothing};
+ghost use Rattle.ux_laws.specs.Connections.{ConnectionsStay};
+ghost use Rattle.ux_laws.specs.Sends.{SendsCount, WritesAreCutOff, SendsAreRefused, SendsBreak};
 ghost use Rattle.ux_laws.specs.Beginning.{NobodyMakesThem, AllCallsAreTheirs};
 ghost use Rattle.ux_laws.specs.Files.{EachHoldingHasAPedigree, ChangesHaveAWay, ReadsHaveAWay, StrangersHaveNoWay, StrangersChangeNothing};
 ghost use Rattle.ux_laws.specs.Files.{UnwrittenFilesStay, ReadsTellTheFile, FilesKeepTheirPath, HoldOnlyWhatTheyMade, StrangerHasNoWay};
+ghost use Rattle.ux_laws.specs.Writes.{WritesPut, FilesAreTheirWrites, BytesHaveAWay, ModesAreAsked, ModesStay, AppendsStay};
+ghost use Rattle.ux_laws.specs.Writes.{OffsetsStay, OpeningsAreAsAsked, NewFilesAreEmpty};
+ghost use Rattle.ux_laws.specs.OwnNames.{NamesAreGiven, OneIsNamed, AbstractNamesAreAsked};
 ghost use Rattle.ux_laws.specs.Reach.{CallsLeaveOthersAlone, CallsLeaveTablesAlone, CallsLeavePathsAlone};
 ghost use Rattle.ux_laws.specs.Reach.{AbstractNamesStay, AbstractNamesAreBound};
 ghost use Rattle.ux_laws.specs.Records.{RecordsArriveInOrder, RecordsArriveOnce, RecordsArriveWhole, ReadRecordsArriveWhole};
@@ -109,6 +116,57 @@ pub fn files_keep_their_path()
     ensures { FilesKeepTheirPath }
 {}
 
+/// A write to a memory file that is answered a count put so many of its bytes there: from the description's offset
+/// on, or with O_APPEND from the end on, over what was there, with zeros in between where that is shorter; the
+/// offset is behind them then.
+pub fn writes_put_their_bytes()
+    ensures { WritesPut }
+{}
+
+/// A memory file that a creating open or a memfd_create makes has no bytes then.
+pub fn new_files_are_empty()
+    ensures { NewFilesAreEmpty }
+{}
+
+/// What is in a memory file is what was there at an earlier moment, with all that writes have put there since.
+pub fn files_are_their_writes()
+    ensures { FilesAreTheirWrites }
+{}
+
+/// Each byte of it stood there then, fills a gap (zero), or is of a write since, through a descriptor whose
+/// pedigree begins with an open of the file for writing, or with the call that made it.
+pub fn bytes_have_a_way()
+    ensures { BytesHaveAWay }
+{}
+
+/// What an open, a creating open or a memfd_create gives leads to a new description in the mode that was asked for,
+/// with O_APPEND as it was, at the start of the file.
+pub fn openings_are_as_asked()
+    ensures { OpeningsAreAsAsked }
+{}
+
+/// What a descriptor leads to is open in the mode that was asked for: its pedigree begins with an open of the file
+/// object in that very mode, or with the call that made it, which opened it so.
+pub fn modes_are_asked_for()
+    ensures { ModesAreAsked }
+{}
+
+/// A description of a file object leads to that object in the same mode for good.
+pub fn modes_stay()
+    ensures { ModesStay }
+{}
+
+/// O_APPEND of a description of a file object changes by fcntl's F_SETFL alone, through a descriptor that leads to
+/// it.
+pub fn appends_stay()
+    ensures { AppendsStay }
+{}
+
+/// Its offset changes by a read, a write or an lseek alone, through such a descriptor.
+pub fn offsets_stay()
+    ensures { OffsetsStay }
+{}
+
 /// Processes that were sent no descriptor, nor was any that made them by fork, hold only what they made: the
 /// pedigree of each descriptor of theirs begins with a call of one of them.
 pub fn who_was_sent_nothing_holds_what_it_made()
@@ -197,6 +255,23 @@ pub fn abstract_names_are_bound()
     ensures { AbstractNamesAreBound }
 {}
 
+/// A socket's own name changes only where it had none, by a bind or by SO_PASSCRED turned on, through a descriptor
+/// that leads to it: to the address that bind asked for, which led nowhere, or to the least name that autobind has
+/// left.
+pub fn names_are_given()
+    ensures { NamesAreGiven }
+{}
+
+/// A call names one socket at most.
+pub fn one_socket_is_named()
+    ensures { OneIsNamed }
+{}
+
+/// A name of the abstract namespace that no socket has is given by such a call alone.
+pub fn abstract_names_are_asked_for()
+    ensures { AbstractNamesAreAsked }
+{}
+
 /// Once its peer is gone, a connected socket stays without one, and no ECONNRESET comes to be pending.
 pub fn ends_are_for_ever()
     ensures { EndsAreForEver }
@@ -223,6 +298,33 @@ pub fn writes_break()
     ensures { WritesBreak }
 {}
 
+/// So is one where the socket is shut down for writing, or its peer for reading.
+pub fn writes_are_cut_off()
+    ensures { WritesAreCutOff }
+{}
+
+/// So is a plain send, which gives no address and no control buffer.
+pub fn sends_break()
+    ensures { SendsBreak }
+{}
+
+/// Any send there is refused, and why: for its flags, its control buffer or its address, else as a broken pipe.
+pub fn sends_are_cut_off()
+    ensures { SendsAreRefused }
+{}
+
+/// A send or a write that is answered a count took so many of its bytes: its target has one message more, behind
+/// all others, with exactly these. A datagram or a record goes whole; of a stream's bytes go as many as there is
+/// room for, at least one.
+pub fn sends_count_what_they_take()
+    ensures { SendsCount }
+{}
+
+/// A socket that is connected stays so, to the same peer, as long as it is there, and that to it.
+pub fn connections_stay()
+    ensures { ConnectionsStay }
+{}
+
 /// A read at a socket whose peer is gone gives what is queued; then it is answered ECONNRESET where that is pending,
 /// which clears it; then no bytes. It never waits.
 pub fn reads_tell_the_end()
@@ -232,6 +334,42 @@ pub fn reads_tell_the_end()
 /// So does a receive.
 pub fn receives_tell_the_end()
     ensures { ReceivesTellTheEnd }
+{}
+
+/// A read of some bytes is given none only at the end of input (its socket is shut down for reading, its peer for
+/// writing or gone, and nothing is queued), or for a packet without bytes.
+pub fn reads_tell_no_false_end()
+    ensures { ReadsEndTruly }
+{}
+
+/// So is a receive.
+pub fn receives_tell_no_false_end()
+    ensures { ReceivesEndTruly }
+{}
+
+/// What a receive or a peek gives at a stream are the first bytes that wait there, no more than it asked for.
+pub fn receives_give_the_first_bytes()
+    ensures { ReceivesGiveTheFirst }
+{}
+
+/// So is what a read gives.
+pub fn reads_give_the_first_bytes()
+    ensures { ReadsGiveTheFirst }
+{}
+
+/// A peek leaves each queue as it is.
+pub fn peeks_take_nothing()
+    ensures { PeeksTakeNothing }
+{}
+
+/// Where nothing waits, a receive or a peek that isn't refused gives nothing: no bytes, no control and no sender.
+pub fn empty_queues_give_nothing()
+    ensures { EmptyQueuesGiveNothing }
+{}
+
+/// So does a read.
+pub fn empty_queues_read_as_nothing()
+    ensures { EmptyQueuesReadAsNothing }
 {}
 
 /// A receive that is answered EAGAIN finds nothing at its socket, whose input isn't over.

@@ -48,6 +48,7 @@ empty_handed {S} {p} {request} {reply} d n s through there none count bytes coun
       (ap (λ n. take n (offered_bytes request)) count ∙ take_none (offered_bytes request));
   bytes_in = λ d. none_either (is_peek request) _ (either_none (receives_through S d p request) (given_bytes reply) bytes);
   record_out = λ d to count. absurd (false≢true (sym counts ∙ count));
+  goes_out = λ count. absurd (false≢true (sym counts ∙ count));
   record_in = λ e by peek given.
       let at : d ≡ e = found_is d e s s (socket_through S p request) through by in (
         s,
@@ -65,5 +66,6 @@ peeked {S} {p} {request} {reply} peek count counts = record {
       (ap (λ n. take n (offered_bytes request)) count ∙ take_none (offered_bytes request));
   bytes_in = λ d. ap (λ b. if b then [] else if receives_through S d p request then given_bytes reply else []) peek;
   record_out = λ d to count. absurd (false≢true (sym counts ∙ count));
+  goes_out = λ count. absurd (false≢true (sym counts ∙ count));
   record_in = λ e by takes given. absurd (false≢true (sym takes ∙ peek));
 }

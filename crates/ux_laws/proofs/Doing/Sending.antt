@@ -1,8 +1,9 @@
 -- What a send does.
 use Rattle.std.proofs.Common.{◌≡◌, ℕ, ◌==◌, Bool, true, false, not, ◌&&◌, ◌||◌, if◌then◌else◌, List, [], length}
-use Rattle.std.proofs.Common.{take, Option, Some, None, Result, Ok, refl, ap, sym, ◌∙◌}
+use Rattle.std.proofs.Common.{take, Option, Some, None, Result, Ok, refl, ap, sym, ◌∙◌, inr}
 use Rattle.std.specs.Prelude.{nat_lt}
 use Rattle.std.proofs.lemmas.Bool.{eqb-true, false≢true, and_parts}
+use Rattle.std.proofs.lemmas.List.{nil_from_length}
 use Rattle.ux_model.specs.Types.{Errno, Fd, Cred, Addr, MsgFlags, Request, Reply}
 use Rattle.ux_model.specs.Limits.{record_bytes_limit}
 use Rattle.ux_model.specs.Flags.{are_send_flags}
@@ -59,13 +60,14 @@ goes_there S p t request end s through goes =
 -- a send of no bytes to a stream
 nothing_offered : {S : State} {p t end : ℕ} {request : Request} {s other : Socket} → socket_through S p request ≡ Some (end, s) →
     goes_to S s (request_addr request) ≡ Some t → socket_at S t ≡ Some other →
-    is_stream other.kind ≡ true → MovesNothing S p request (Reply.Count 0)
-nothing_offered {S} {p} {t} {end} {request} {s} {other} through goes there streams = record {
+    is_stream other.kind ≡ true → offered_bytes request ≡ [] → MovesNothing S p request (Reply.Count 0)
+nothing_offered {S} {p} {t} {end} {request} {s} {other} through goes there streams empty = record {
   bytes_out = λ d. either_none (sends_to S d p request) (take 0 (offered_bytes request)) (take_none (offered_bytes request));
   bytes_in = λ d. none_either (is_peek request) _ (either_none (receives_through S d p request) [] refl);
   record_out = λ d to count.
       let at : t ≡ d = eqb-true t d (sym (ap (is_number d) (goes_there S p t request end s through goes)) ∙ to) in
-      (other, ap (λ (k : ℕ). socket_at S k) (sym at) ∙ there, streams);
+      (other, ap (λ (k : ℕ). socket_at S k) (sym at) ∙ there, streams, empty, refl);
+  goes_out = λ count. inr (t, goes_there S p t request end s through goes);
   record_in = λ d by takes given. absurd (false≢true given);
 }
 
@@ -76,7 +78,8 @@ enqueue_did : (S : State) (p tag : ℕ) (request : Request) (limit : Option ℕ)
 enqueue_did S p tag request limit t end s other P m offered from goes there =
     either Q (is_stream other.kind && (length m.bytes == 0)) _ _
     (λ b. quiet (kept_shrinks (kept_same S S refl))
-    (nothing_offered offered.through goes there (and_parts (is_stream other.kind) (length m.bytes == 0) b).0))
+    (let parts = and_parts (is_stream other.kind) (length m.bytes == 0) b in
+    nothing_offered offered.through goes there parts.0 (sym offered.bytes ∙ nil_from_length m.bytes (eqb-true (length m.bytes) 0 parts.1))))
     (λ b. either Q (is_over_limit S limit m) _ _ (λ c. refuses)
     (λ c. either Q (not (has_room other)) _ _ (λ f. refuses)
     (λ f. put t m (record {
@@ -95,6 +98,7 @@ enqueue_did S p tag request limit t end s other P m offered from goes there =
       from = from;
       answered = refl;
       room = not_false (has_room other) f;
+      some = b;
     }) (kept_shrinks (kept_same _ _ refl)))))
   where
     Q : Outcome → Type 0

@@ -1,6 +1,6 @@
 -- Calls on descriptors, processes and files change what is near alone.
 use Rattle.std.proofs.Common.{◌≡◌, ℕ, Bool, zero, suc, ◌==◌, true, false, not, ◌||◌, List}
-use Rattle.std.proofs.Common.{length, Option, Some, None, Ok, refl, ap, sym, subst, inl}
+use Rattle.std.proofs.Common.{length, Option, Some, None, Ok, refl, ap, sym, ◌∙◌, subst, inl}
 use Rattle.std.proofs.Common.{slice_get, arith, [], ◌∷◌, ◌++◌}
 use Rattle.std.specs.Prelude.{nat_le, ℤ, is_some, is_none}
 use Rattle.std.proofs.lemmas.Bool.{false≢true}
@@ -42,7 +42,7 @@ use Rattle.ux_laws.specs.Reach.{held, pending, named}
 use Rattle.ux_laws.proofs.Doing.Naming.{by_addr}
 use Rattle.ux_laws.proofs.Near.Single.{reset_of, shut_of, is_shutdown, awaits_of, is_connect, awaits_again, awaits_first, limit_of}
 use Rattle.ux_laws.proofs.Near.Single.{full_of, may_give_place, sets_option, NearAt, gone, Near, near_same, near_by, near_socket}
-use Rattle.ux_laws.proofs.Near.Single.{near_put, near_new, near_table, still}
+use Rattle.ux_laws.proofs.Near.Single.{near_put, near_new, near_table, still, name_of, offset_of, KeepsOwn}
 use Rattle.ux_laws.proofs.Near.Leading.{by_fd, by_own}
 
 pub dup_near : (S : State) (p : ℕ) (fd : Fd) → Near S p (Request.Dup fd) (dup S p fd).next
@@ -71,7 +71,7 @@ pub flags_near : (S : State) (p : ℕ) (fd : Fd) (flags : OpenFlags) → Near S 
 unfolding set_flags
 flags_near S p fd flags = found (λ o. Near S p (Request.SetFlags fd flags) o.next) S p fd _ still
     (λ e D g h. near_table (with_description S e.description (with_flags flags D)) p _
-    (near_put e.description D (with_flags flags D) h refl (by_fd fd e g)))
+    (near_put e.description D (with_flags flags D) h refl (λ calm. absurd (false≢true (sym calm))) (λ calm. refl) (by_fd fd e g)))
 
 pub close_near : (S : State) (p : ℕ) (fd : Fd) → Near S p (Request.Close fd) (close S p fd).next
 unfolding close
@@ -210,7 +210,7 @@ bind_near S p fd addr = by_own Q S p (Request.Bind fd addr) fd _ (λ e. still)
     called : (d : ℕ) (name : Addr) → description_of S p fd.0 ≡ Some d →
         Near S p (Request.Bind fd addr) (with_socket_by S d (with_name name))
     called d name mine = near_socket S d (with_name name) still (inl (held fd.0 mine))
-        (λ s. (λ h. h, λ elsewhere. refl, λ other h. h, λ set. refl, λ apart h. h))
+        (λ s. (λ h. h, λ elsewhere. refl, λ other h. h, λ set. refl, λ apart h. h, λ calm. absurd (false≢true (sym calm))))
 
     to : (d : ℕ) → description_of S p fd.0 ≡ Some d → (name : Addr) → Near S p (Request.Bind fd addr) (bind_to S d name).next
     to d mine Addr.Unnamed = maybe Q (free_name S.abstract_names) _ _ still (λ name h. alike _ refl (called d (Addr.Abstract name) mine))
@@ -240,6 +240,7 @@ listen_near S p fd backlog = maybe Q (process_at S p) _ _ still (λ P here. by_o
       λ other h. awaits_again (backlog_of backlog) (own_cred p P) s.phase h,
       λ set. refl,
       λ apart h. absurd (false≢true (sym apart)),
+      λ calm. refl,
     )))))))
   where
     Q : Outcome → Type 0
@@ -250,7 +251,7 @@ unfolding shutdown
 shutdown_near S p fd how = by_own Q S p (Request.Shutdown fd how) fd _ (λ e. still)
     (λ d s mine there. either Q (is_none (tied_socket s.phase)) _ _ (λ b. still)
     (λ b. near_socket S d (shut_down how) still (inl (held fd.0 mine))
-    (λ s. (λ h. h, λ on. absurd (false≢true (sym on)), λ other h. h, λ set. refl, λ apart h. h))))
+    (λ s. (λ h. h, λ on. absurd (false≢true (sym on)), λ other h. h, λ set. refl, λ apart h. h, λ calm. refl))))
   where
     Q : Outcome → Type 0
     Q o = Near S p (Request.Shutdown fd how) o.next
@@ -272,6 +273,7 @@ connect_near S p fd addr = maybe Q (process_at S p) _ _ still (λ P here. by_own
           λ other h. absurd (false≢true (sym other)),
           λ set. refl,
           λ apart h. absurd (false≢true (sym apart)),
+          λ calm. refl,
         ))
 
     datagram : (d : ℕ) → description_of S p fd.0 ≡ Some d → (kind : SockType) →
@@ -298,6 +300,7 @@ connect_near S p fd addr = maybe Q (process_at S p) _ _ still (λ P here. by_own
           λ other h. absurd (false≢true (sym other)),
           λ set. refl,
           λ apart h. absurd (false≢true (sym apart)),
+          λ calm. refl,
         ))) (omega (arith, long)) refl refl refl) (inl (held fd.0 mine))
         (λ s. (
           λ h. h,
@@ -305,6 +308,7 @@ connect_near S p fd addr = maybe Q (process_at S p) _ _ still (λ P here. by_own
           λ other h. absurd (false≢true (sym other)),
           λ set. refl,
           λ apart h. absurd (false≢true (sym apart)),
+          λ calm. refl,
         ))))
 
     stream : (d : ℕ) → description_of S p fd.0 ≡ Some d → (s : Socket) (cred : Cred) →
@@ -330,8 +334,9 @@ accept_near S p fd flags = by_own Q S p (Request.Accept fd flags) fd _ (λ e. st
         let T : State = with_table S p (filled (table_of S p) n (descriptor flags e)) in
         let U : State = with_socket_by T d without_first_end in
         near_by U e (accepted_with flags) (near_socket T d without_first_end (near_table S p _ still) (inl (held fd.0 mine))
-        (λ s. (λ h. h, λ elsewhere. refl, λ other h. awaits_first s.phase h, λ set. refl, λ apart h. absurd (false≢true (sym apart)))))
-        (inl (pending fd.0 d s mine there first)) (λ D. at_target D.target)
+        (λ s. (λ h. h, λ elsewhere. refl, λ other h. awaits_first s.phase h, λ set. refl, λ apart h. absurd (false≢true (sym apart)), λ calm. refl)))
+        (inl (pending fd.0 d s mine there first))
+        (λ D. let a = at_target D.target in (a.0, a.1, a.2, a.3, a.4, accepted_own D D.target refl))
       where
         at_target : (u : Target) → (reset_of (changed_target as_accepted u) ≡ true → reset_of u ≡ true)
             × (is_shutdown (Request.Accept fd flags) ≡ false → shut_of (changed_target as_accepted u) ≡ shut_of u)
@@ -340,3 +345,20 @@ accept_near S p fd flags = by_own Q S p (Request.Accept fd flags) fd _ (λ e. st
             × (may_give_place (Request.Accept fd flags) ≡ false → full_of u ≡ true → full_of (changed_target as_accepted u) ≡ true)
         at_target (to_object o) = (λ h. h, λ elsewhere. refl, λ other h. h, λ set. refl, λ apart h. h)
         at_target (to_socket s) = (λ h. h, λ elsewhere. refl, λ other h. h, λ set. refl, λ apart h. h)
+
+        accepted_own : (D : Description) (t : Target) → D.target ≡ t →
+            KeepsOwn (Request.Accept fd flags) (Some D) (Some (accepted_with flags D))
+        accepted_own D t is = record {
+          named = λ calm name h. ap name_of (ap (changed_target as_accepted) is) ∙ name_kept t ∙ sym (ap name_of is) ∙ h;
+          appends = λ calm append h. absurd (false≢true (sym calm));
+          stands = λ calm offset h. ap (offset_of D.offset) (ap (changed_target as_accepted) is) ∙ offset_kept t
+              ∙ sym (ap (offset_of D.offset) is) ∙ h;
+        }
+          where
+            name_kept : (u : Target) → name_of (changed_target as_accepted u) ≡ name_of u
+            name_kept (to_object o) = refl
+            name_kept (to_socket s) = refl
+
+            offset_kept : (u : Target) → offset_of D.offset (changed_target as_accepted u) ≡ offset_of D.offset u
+            offset_kept (to_object o) = refl
+            offset_kept (to_socket s) = refl

@@ -1,7 +1,8 @@
 -- So do reads and writes.
 use Rattle.std.proofs.Common.{◌≡◌, ℕ, ◌==◌, not, ◌&&◌, List}
-use Rattle.std.proofs.Common.{length, min, Some, Result, Ok, Err, refl, ap, ◌∙◌}
+use Rattle.std.proofs.Common.{length, min, Some, Result, Ok, Err, refl, ap, sym, ◌∙◌}
 use Rattle.std.specs.Prelude.{nat_lt, ℤ, pos, negsuc, ◌+ℤ◌}
+use Rattle.std.proofs.lemmas.Bool.{false≢true}
 use Rattle.ux_model.specs.Types.{Fd, Whence, Request}
 use Rattle.ux_model.specs.Places.{place}
 use Rattle.ux_model.specs.Limits.{read_limit, offset_limit}
@@ -39,7 +40,8 @@ read_near S p fd n = found Q S p fd _ still (λ e D g h. by_target Q D.target _ 
     by_answer : (o : ℕ) (e : Descriptor) (D : Description) (view : View) (r : Result (List ℕ × Body) ObjectError) →
         descriptor_at S p fd ≡ Some e → description_at S e.description ≡ Some D → Q (read_answer S e.description D o view r)
     by_answer o e D view (Ok found) g h = alike _ refl
-        (near_put e.description D (record D { offset = offset_after_read D view found.0 }) h refl (by_fd fd e g))
+        (near_put e.description D (record D { offset = offset_after_read D view found.0 }) h refl (λ calm. refl)
+        (λ calm. absurd (false≢true (sym calm))) (by_fd fd e g))
     by_answer o e D view (Err would_block) g h =
         either Q (is_pipe view.body && not (is_open_for can_write S o)) _ _ (λ b. still) (λ b. still)
     by_answer o e D view (Err full) g h = still
@@ -62,7 +64,8 @@ write_near S p tag fd bytes = found Q S p fd _ still (λ e D g h. by_target Q D.
     by_answer : (o : ℕ) (e : Descriptor) (D : Description) (view : View) (r : Result (ℕ × Body) ObjectError) →
         descriptor_at S p fd ≡ Some e → description_at S e.description ≡ Some D → Q (write_answer S e.description D o view r)
     by_answer o e D view (Ok made) g h = alike _ refl
-        (near_put e.description D (record D { offset = offset_after_write D view made.0 }) h refl (by_fd fd e g))
+        (near_put e.description D (record D { offset = offset_after_write D view made.0 }) h refl (λ calm. refl)
+        (λ calm. absurd (false≢true (sym calm))) (by_fd fd e g))
     by_answer o e D view (Err would_block) g h = still
     by_answer o e D view (Err full) g h = still
     by_answer o e D view (Err invalid) g h = still
@@ -81,5 +84,6 @@ lseek_near S p fd offset whence = found Q S p fd _ still (λ e D g h. by_target 
     seek : (e : Descriptor) (D : Description) (to : ℤ) → descriptor_at S p fd ≡ Some e → description_at S e.description ≡ Some D →
         Near S p (Request.Lseek fd offset whence) (seek_to S e.description D to).next
     seek e D (pos n) g h = either Q (nat_lt offset_limit n) _ _ (λ b. still)
-        (λ b. near_put e.description D (record D { offset = n }) h refl (by_fd fd e g))
+        (λ b. near_put e.description D (record D { offset = n }) h refl (λ calm. refl) (λ calm. absurd (false≢true (sym calm)))
+        (by_fd fd e g))
     seek e D (negsuc n) g h = still

@@ -35,7 +35,7 @@ enqueue_near : (S : State) (p : ℕ) (request : Request) (limit : Option ℕ) (t
 enqueue_near S p request limit t other m reach = either Q (is_stream other.kind && (length m.bytes == 0)) _ _ (λ b. still)
     (λ b. either Q (is_over_limit S limit m) _ _ (λ c. still)
     (λ c. either Q (not (has_room other)) _ _ (λ f. still)
-    (λ f. near_socket S t (sent m) still (inl reach) (λ s. (λ h. h, λ elsewhere. refl, λ other h. h, λ set. refl, λ apart h. h)))))
+    (λ f. near_socket S t (sent m) still (inl reach) (λ s. (λ h. h, λ elsewhere. refl, λ other h. h, λ set. refl, λ apart h. h, λ calm. refl)))))
   where
     Q : Outcome → Type 0
     Q o = Near S p request o.next
@@ -76,7 +76,7 @@ from_near S p i request limit d s m mine here = either Q (is_dgram s.kind) _ _
     by_association None is m = still
     by_association (Some t) is m = maybe Q (socket_at S t) _ _
         (near_socket S d (with_association None) still (inl (held i mine))
-        (λ s. (λ h. h, λ elsewhere. refl, λ other h. awaits_on None s.phase h, λ set. refl, λ apart h. full_on None s.phase h)))
+        (λ s. (λ h. h, λ elsewhere. refl, λ other h. awaits_on None s.phase h, λ set. refl, λ apart h. full_on None s.phase h, λ calm. refl)))
         (λ target h. to_target t target m (tied_to t (of_association s.phase t is)))
 
     by_address : (addr : Option Addr) → asked_addr request ≡ addr → (m : Message) → Near S p request (send_by S limit d s addr m).next
@@ -133,14 +133,14 @@ front_near S p d request s asked front reach = go (asks_peek asked.flags) _ (nea
     go : (b : Bool) (T : State) → Near S p request T → Near S p request (cond b T (with_socket_by T d (with_queue front.rest)))
     go true T near = near
     go false T near = near_socket T d (with_queue front.rest) near (inl reach)
-        (λ s. (λ h. h, λ elsewhere. refl, λ other h. h, λ set. refl, λ apart h. h))
+        (λ s. (λ h. h, λ elsewhere. refl, λ other h. h, λ set. refl, λ apart h. h, λ calm. refl))
 
 pub receive_near : (S : State) (p d : ℕ) (request : Request) (s : Socket) (asked : Incoming) → IsInReach S p request d →
     Near S p request (receive S p d s asked).next
 receive_near S p d request s asked reach =
     by_receive (λ o. Near S p request o.next) S p d s asked
     (λ e. still) (near_socket S d (with_reset false) still (inl reach)
-    (λ s. (λ h. absurd (false≢true h), λ elsewhere. refl, λ other h. h, λ set. refl, λ apart h. h))) (λ none. still)
+    (λ s. (λ h. absurd (false≢true h), λ elsewhere. refl, λ other h. h, λ set. refl, λ apart h. h, λ calm. refl))) (λ none. still)
     (λ m ms q. front_near S p d request s asked (front_of asked.n s m ms) reach)
 
 pub recv_near : (S : State) (p : ℕ) (fd : Fd) (n space : ℕ) (flags : MsgFlags) →

@@ -36,7 +36,7 @@ get_opt_near S p fd opt = by_own (λ o. Near S p (Request.GetOpt fd opt) o.next)
         (λ b. still)
     by_option d mine s SockOpt.Kind = still
     by_option d mine s SockOpt.Error = near_socket S d (with_reset false) still (inl (held fd.0 mine))
-        (λ s. (λ h. absurd (false≢true h), λ elsewhere. refl, λ other h. h, λ set. refl, λ apart h. h))
+        (λ s. (λ h. absurd (false≢true h), λ elsewhere. refl, λ other h. h, λ set. refl, λ apart h. h, λ calm. refl))
     by_option d mine s SockOpt.PassCred = still
     by_option d mine s SockOpt.AcceptConn = still
 
@@ -51,7 +51,7 @@ set_opt_near S p fd opt value = by_own Q S p (Request.SetOpt fd opt value) fd _ 
     passing : (T : State) (d : ℕ) (on : Bool) → description_of S p fd.0 ≡ Some d → Near S p (Request.SetOpt fd opt value) T →
         Near S p (Request.SetOpt fd opt value) (with_socket_by T d (with_passcred on))
     passing T d on mine near = near_socket T d (with_passcred on) near (inl (held fd.0 mine))
-        (λ s. (λ h. h, λ elsewhere. refl, λ other h. h, λ set. refl, λ apart h. h))
+        (λ s. (λ h. h, λ elsewhere. refl, λ other h. h, λ set. refl, λ apart h. h, λ calm. refl))
 
     by_option : (d : ℕ) → description_of S p fd.0 ≡ Some d → (s : Socket) (o : SockOpt) →
         Near S p (Request.SetOpt fd opt value) (change_option S d s value o).next
@@ -64,10 +64,10 @@ set_opt_near S p fd opt value = by_own Q S p (Request.SetOpt fd opt value) fd _ 
         let T : State = record (with_socket_by S d (with_name (Addr.Abstract name))) { abstract_names = S.abstract_names ++ (name, d) ∷ [] }
         in
         passing T d true mine (alike T refl (near_socket S d (with_name (Addr.Abstract name)) still (inl (held fd.0 mine))
-        (λ s. (λ h. h, λ elsewhere. refl, λ other h. h, λ set. refl, λ apart h. h)))))))
+        (λ s. (λ h. h, λ elsewhere. refl, λ other h. h, λ set. refl, λ apart h. h, λ calm. absurd (false≢true (sym calm)))))))))
     by_option d mine s SockOpt.PeerCred = still
     by_option d mine s SockOpt.AcceptConn = still
     by_option d mine s SockOpt.QueueLimit = either Q (not (is_stream s.kind)) _ _ (λ b. still)
         (λ b. either Q (not (may_limit value)) _ _ (λ c. still)
         (λ c. near_socket S d (with_queue_limit value) still (inl (held fd.0 mine))
-        (λ s. (λ h. h, λ elsewhere. refl, λ other h. h, λ set. absurd (false≢true (sym set)), λ apart h. h))))
+        (λ s. (λ h. h, λ elsewhere. refl, λ other h. h, λ set. absurd (false≢true (sym set)), λ apart h. h, λ calm. refl))))

@@ -5,7 +5,7 @@ use Rattle.std.proofs.Common.{inr, arith}
 use Rattle.std.specs.Prelude.{nat_le}
 use Rattle.std.proofs.lemmas.Bool.{eqb-true, eqb-false, false≢true}
 use Rattle.std.proofs.lemmas.List.{get_or-set_other}
-use Rattle.ux_model.specs.Types.{Cred, Request}
+use Rattle.ux_model.specs.Types.{Cred, Addr, Request}
 use Rattle.ux_model.specs.Places.{place, filled}
 use Rattle.ux_model.specs.Limits.{first_queue_limit}
 use Rattle.ux_model.specs.Socket.{Socket, Phase, idle, listening, connected, associated, pending_ends}
@@ -127,13 +127,96 @@ abbrev pub sets_option : Request → Bool
 sets_option (Request.SetOpt fd opt value) = true
 sets_option _ = false
 
+-- a socket's own name
+abbrev pub name_of : Target → Option Addr
+name_of (to_object o) = None
+name_of (to_socket s) = Some s.name
+
+abbrev pub name_in : Option Description → Option Addr
+name_in None = None
+name_in (Some D) = name_of D.target
+
+-- O_APPEND, and the offset, where a description leads to a file object
+abbrev pub append_of : Bool → Target → Option Bool
+append_of append (to_object o) = Some append
+append_of append (to_socket s) = None
+
+abbrev pub append_in : Option Description → Option Bool
+append_in None = None
+append_in (Some D) = append_of D.append D.target
+
+abbrev pub offset_of : ℕ → Target → Option ℕ
+offset_of offset (to_object o) = Some offset
+offset_of offset (to_socket s) = None
+
+abbrev pub offset_in : Option Description → Option ℕ
+offset_in None = None
+offset_in (Some D) = offset_of D.offset D.target
+
+-- the calls that may name a socket, set flags, and move an offset
+abbrev pub may_name : Request → Bool
+may_name (Request.Bind fd addr) = true
+may_name (Request.SetOpt fd opt value) = true
+may_name _ = false
+
+abbrev pub may_set_flags : Request → Bool
+may_set_flags (Request.SetFlags fd flags) = true
+may_set_flags (Request.Accept fd flags) = true
+may_set_flags _ = false
+
+abbrev pub may_move : Request → Bool
+may_move (Request.Read fd n) = true
+may_move (Request.Write fd bytes) = true
+may_move (Request.Lseek fd offset whence) = true
+may_move _ = false
+
+-- other calls keep them
+pub record KeepsOwn (request : Request) (old x : Option Description) : Type 0 where
+  pub named : may_name request ≡ false → (name : Addr) → name_in old ≡ Some name → name_in x ≡ Some name
+  pub appends : may_set_flags request ≡ false → (append : Bool) → append_in old ≡ Some append → append_in x ≡ Some append
+  pub stands : may_move request ≡ false → (offset : ℕ) → offset_in old ≡ Some offset → offset_in x ≡ Some offset
+
+own_same : (request : Request) (old x : Option Description) → x ≡ old → KeepsOwn request old x
+own_same request old x is = record {
+  named = λ calm name h. ap name_in is ∙ h;
+  appends = λ calm append h. ap append_in is ∙ h;
+  stands = λ calm offset h. ap offset_in is ∙ h;
+}
+
+own_after : (request : Request) (old x y : Option Description) → KeepsOwn request old x → KeepsOwn request x y → KeepsOwn request old y
+own_after request old x y a b = record {
+  named = λ calm name h. b.named calm name (a.named calm name h);
+  appends = λ calm append h. b.appends calm append (a.appends calm append h);
+  stands = λ calm offset h. b.stands calm offset (a.stands calm offset h);
+}
+
+-- where nothing was
+own_new : (request : Request) (old x : Option Description) → old ≡ None → KeepsOwn request old x
+own_new request old x none = record {
+  named = λ calm name h. let clash : None ≡ Some name = sym (ap name_in none) ∙ h in absurd (cc clash);
+  appends = λ calm append h. let clash : None ≡ Some append = sym (ap append_in none) ∙ h in absurd (cc clash);
+  stands = λ calm offset h. let clash : None ≡ Some offset = sym (ap offset_in none) ∙ h in absurd (cc clash);
+}
+
+-- of a socket that changes, the name alone is in question
+own_socket : (request : Request) (change : Socket → Socket) (D : Description) →
+    ((s : Socket) → may_name request ≡ false → (change s).name ≡ s.name) → KeepsOwn request (Some D) (Some (changed change D))
+own_socket request change D keeps = by_target D.target
+  where
+    by_target : (t : Target) → KeepsOwn request (Some (record D { target = t })) (Some (record D { target = changed_target change t }))
+    by_target (to_object o) = record { named = λ calm name h. h; appends = λ calm append h. h; stands = λ calm offset h. h }
+    by_target (to_socket s) = record {
+      named = λ calm name h. ap Some (keeps s calm) ∙ h;
+      appends = λ calm append h. h;
+      stands = λ calm offset h. h;
+    }
+
 -- the call resets nothing, shuts nothing down if it is no shutdown, ends no wait for ends if it is no connect, sets no limit if it is no
--- setsockopt, and gives no place in
--- a backlog but by the calls that may
+-- setsockopt, gives no place in a backlog but by the calls that may, and keeps names, O_APPEND and offsets likewise
 abbrev pub Keeps : Request → Option Description → Option Description → Type 0
 Keeps request old x = (reset_in x ≡ true → reset_in old ≡ true) × (is_shutdown request ≡ false → shut_in x ≡ shut_in old)
     × (is_connect request ≡ false → awaits_in old ≡ true → awaits_in x ≡ true) × (sets_option request ≡ false → limit_in x ≡ limit_in old)
-    × (may_give_place request ≡ false → full_in old ≡ true → full_in x ≡ true)
+    × (may_give_place request ≡ false → full_in old ≡ true → full_in x ≡ true) × KeepsOwn request old x
 
 -- what becomes of one: it stays, it is in reach and not reset by the call, or it is gone
 pub data NearAt (S : State) (p : ℕ) (request : Request) (d : ℕ) (x : Option Description) : Type 0 where
@@ -165,7 +248,7 @@ near_by {S} {p} {request} T t change near reach resets = record {
 }
   where
     kept : (x : Option Description) → Keeps request x (option_map change x)
-    kept None = (λ h. h, λ elsewhere. refl, λ other h. h, λ set. refl, λ apart h. h)
+    kept None = (λ h. h, λ elsewhere. refl, λ other h. h, λ set. refl, λ apart h. h, own_same request None None refl)
     kept (Some D) = resets D
 
     keeps_on : (old x y : Option Description) → Keeps request old x → Keeps request x y → Keeps request old y
@@ -176,6 +259,7 @@ near_by {S} {p} {request} T t change near reach resets = record {
       λ set. b.3 set
           ∙ a.3 set,
       λ apart h. b.4 apart (a.4 apart h),
+      own_after request old x y a.5 b.5,
     )
 
     both : (d : ℕ) (x : Option Description) → Keeps request (description_at S d) x → IsInReach S p request d ⊎ (length S.descriptions ≤ d) →
@@ -192,6 +276,7 @@ near_by {S} {p} {request} T t change near reach resets = record {
           ∙ h,
       λ set. ap limit_in is,
       λ apart h. ap full_in is ∙ h,
+      own_same request (description_at S d) x is,
     ) r
     at_place d {x} (reached q still) r = both d x still r
     at_place d {x} (new more still) r = both d x still r
@@ -204,9 +289,13 @@ pub near_socket : {S : State} {p : ℕ} {request : Request} (T : State) (t : ℕ
     × (is_shutdown request ≡ false → shut_of (to_socket (change s)) ≡ shut_of (to_socket s))
     × (is_connect request ≡ false → awaits s.phase ≡ true → awaits (change s).phase ≡ true)
     × (sets_option request ≡ false → (change s).queue_limit ≡ s.queue_limit)
-    × (may_give_place request ≡ false → is_full s.phase ≡ true → is_full (change s).phase ≡ true)) →
+    × (may_give_place request ≡ false → is_full s.phase ≡ true → is_full (change s).phase ≡ true)
+    × (may_name request ≡ false → (change s).name ≡ s.name)) →
     Near S p request (with_socket_by T t change)
-near_socket {S} {p} {request} T t change near reach resets = near_by T t (changed change) near reach (λ D. at_target D.target)
+near_socket {S} {p} {request} T t change near reach resets = near_by T t (changed change) near reach
+    (λ D.
+    let a = at_target D.target in
+    (a.0, a.1, a.2, a.3, a.4, own_socket request change D (λ s calm. (resets s).5 calm)))
   where
     at_target : (u : Target) → (reset_of (changed_target change u) ≡ true → reset_of u ≡ true)
         × (is_shutdown request ≡ false → shut_of (changed_target change u) ≡ shut_of u)
@@ -214,12 +303,13 @@ near_socket {S} {p} {request} T t change near reach resets = near_by T t (change
         × (sets_option request ≡ false → limit_of (changed_target change u) ≡ limit_of u)
         × (may_give_place request ≡ false → full_of u ≡ true → full_of (changed_target change u) ≡ true)
     at_target (to_object o) = (λ h. h, λ elsewhere. refl, λ other h. h, λ set. refl, λ apart h. h)
-    at_target (to_socket s) = resets s
+    at_target (to_socket s) = let r = resets s in (r.0, r.1, r.2, r.3, r.4)
 
 -- one that is put in the place of one in reach, and leads to the same
 pub near_put : {S : State} {p : ℕ} {request : Request} (d : ℕ) (D E : Description) → description_at S d ≡ Some D → E.target ≡ D.target →
+    (may_set_flags request ≡ false → E.append ≡ D.append) → (may_move request ≡ false → E.offset ≡ D.offset) →
     IsInReach S p request d → Near S p request (with_description S d E)
-near_put {S} {p} {request} d D E here same reach = record {
+near_put {S} {p} {request} d D E here same flag place_kept reach = record {
   each = λ i. bool_cases (d == i)
       (λ e.
       let at : d ≡ i = eqb-true d i e in
@@ -234,6 +324,13 @@ near_put {S} {p} {request} d D E here same reach = record {
         λ set. ap limit_in is
             ∙ ap limit_of same ∙ sym (ap limit_in was),
         λ apart h. ap full_in is ∙ ap full_of same ∙ sym (ap full_in was) ∙ h,
+        record {
+          named = λ calm name h. ap name_in is ∙ ap name_of same ∙ sym (ap name_in was) ∙ h;
+          appends = λ calm append h. ap append_in is ∙ ap (append_of E.append) same ∙ ap (λ b. append_of b D.target) (flag calm)
+              ∙ sym (ap append_in was) ∙ h;
+          stands = λ calm offset h. ap offset_in is ∙ ap (offset_of E.offset) same ∙ ap (λ (n : ℕ). offset_of n D.target) (place_kept calm)
+              ∙ sym (ap offset_in was) ∙ h;
+        },
       ))
       (λ e. stays (get_or-set_other S.descriptions d i (Some E) None (λ k. eqb-false d i e (sym k))));
 }
@@ -277,6 +374,7 @@ near_new {S} {p} {request} T D near more none open_both first = record {
         λ set. ap limit_in is ∙ first
             ∙ sym (ap limit_in (none_past S.descriptions d beyond)),
         λ apart h. absurd (false≢true (sym (ap full_in (none_past S.descriptions d beyond)) ∙ h)),
+        own_new request (description_at S d) (description_at (with_new T D) d) (none_past S.descriptions d beyond),
       ))
       (λ e. subst (NearAt S p request d) (sym (pushed_other T.descriptions (Some D) d (eqb-false (length T.descriptions) d e)))
       (near.each d));

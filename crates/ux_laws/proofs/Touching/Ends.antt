@@ -28,7 +28,7 @@ unfolding settled drop_unreferenced
 settled_paths S = (rounds_alike (length S.descriptions) S).paths
 
 -- what is left of a file object was in it
-settled_body : (S : State) (o : ℕ) (body : Body) → body_at (settled S) o ≡ Some body → body_at S o ≡ Some body
+pub settled_body : (S : State) (o : ℕ) (body : Body) → body_at (settled S) o ≡ Some body → body_at S o ≡ Some body
 unfolding settled drop_unreferenced
 settled_body S o body h =
     let U : State = drop_rounds (length S.descriptions) S in
