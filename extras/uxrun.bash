@@ -2,10 +2,10 @@
 _uxrun() {
     local word=${COMP_WORDS[COMP_CWORD]} before=${COMP_WORDS[COMP_CWORD-1]}
     case $before in
-        --order|--audit|--holders|--dot|--limit) COMPREPLY=(); return ;;
+        --order|--audit|--holders|--dot|--html|--limit) COMPREPLY=(); return ;;
     esac
     if [[ $word == -* ]]; then
-        mapfile -t COMPREPLY < <(compgen -W '--threads --order --orders --echo --json --follow --expect --check --audit --holders --dot --sequence --each --limit --help --version' -- "$word")
+        mapfile -t COMPREPLY < <(compgen -W '--threads --order --orders --echo --json --follow --expect --check --audit --holders --dot --sequence --html --each --limit --help --version' -- "$word")
     else
         mapfile -t COMPREPLY < <(compgen -d -- "$word"; compgen -f -X '!*.ux' -- "$word")
     fi

@@ -11,6 +11,7 @@ complete -c uxrun -l audit -x -d 'after the trace, reports which descriptors are
 complete -c uxrun -l holders -x -d 'after the trace, lists who holds what then'
 complete -c uxrun -l dot -x -d 'instead of the trace, prints the same as a graph, which Graphviz draws'
 complete -c uxrun -l sequence -d 'instead of the trace, prints the calls as a sequence diagram for Mermaid'
+complete -c uxrun -l html -x -d 'besides, writes a page to FILE, on which the run can be walked through'
 complete -c uxrun -l each -d ''
 complete -c uxrun -l limit -x -d 'begins at most N runs'
 complete -c uxrun -l help -d 'prints what the options are'

@@ -7,7 +7,7 @@ from pathlib import Path
 
 from reference.machine import Machine, read
 
-from .programs import COMPARE, Programs, Trouble
+from .programs import COMPARE, Programs, Trouble, call_shapes
 
 EMULATOR = "qemu-system-x86_64"
 PATIENCE_OF_ALL = 120
@@ -45,7 +45,7 @@ def archive(programs: dict[str, bytes], scripts: list[Path]) -> bytes:
 def compiled(programs: Programs, name: str, sources: list[Path]) -> bytes:
     """A program without shared libraries."""
     path = programs.folder / name
-    status, _, errors = programs.run([os.environ.get("CC", "cc"), "-std=gnu11", "-O2", "-static", "-o", str(path),
+    status, _, errors = programs.run([os.environ.get("CC", "cc"), "-std=gnu11", "-O2", "-static", call_shapes(), "-o", str(path),
                                       *map(str, sorted(sources))])
     if status != 0:
         raise Trouble(f"{name} can't be compiled without shared libraries: {errors}")

@@ -12,6 +12,8 @@ import time
 from pathlib import Path
 from typing import Callable
 
+from reference.calls import BYTES_PLACE, FORMS
+
 COMPARE = Path(__file__).resolve().parent.parent
 TOP = COMPARE.parent
 PATIENCE = int(os.environ.get("PATIENCE", "120"))
@@ -34,6 +36,12 @@ class Interrupted(BaseException):
     def __init__(self, number: int):
         super().__init__()
         self.status = 128 + number
+
+
+def call_shapes() -> str:
+    """For parent.c of the replay: how many words each call has behind its process, and which of them are bytes."""
+    rows = (f'{{"{word}", {len(form.kinds) + 1}, {BYTES_PLACE[word] + 1 if word in BYTES_PLACE else 0}}}' for word, form in FORMS.items())
+    return f"-DCALL_SHAPES={', '.join(rows)}"
 
 
 class Programs:
@@ -78,7 +86,7 @@ class Programs:
         path = self.folder / "linux_replay"
         flags = os.environ.get("CFLAGS", "-O2 -Wall -Wextra").split()
         sources = sorted(map(str, (COMPARE / "replay").glob("*.c")))
-        status, _, errors = self.run([os.environ.get("CC", "cc"), "-std=gnu11", *flags, "-o", str(path), *sources])
+        status, _, errors = self.run([os.environ.get("CC", "cc"), "-std=gnu11", *flags, call_shapes(), "-o", str(path), *sources])
         if status != 0:
             raise Trouble(f"the replay can't be compiled: install a C compiler, or name one by the variable CC\n{errors}")
         path.chmod(0o755)

@@ -8,7 +8,8 @@ from pathlib import Path
 from reference.machine import Machine
 from reference.rules import NO_RULES
 from reference.script import read_script
-from reference.trace import CALLS, WITHOUT_DESCRIPTOR, trace
+from reference.calls import WITHOUT_DESCRIPTOR
+from reference.trace import CALLS, trace
 
 from .generator import write_scripts
 from .programs import COMPARE, TOP

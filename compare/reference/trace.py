@@ -1,11 +1,13 @@
 """Makes all calls of a script by the reference, and tells their trace in uxrun's words."""
 from __future__ import annotations
 
+import sys
 from copy import copy
 from dataclasses import dataclass, field
 from typing import Callable
 
 from . import connecting, files, making, readiness, receiving, sending, sockets, users
+from .calls import ADDRESS_PLACE, FORMS, PATH_PLACE, WITHOUT_DESCRIPTOR
 from .kernel import Kernel
 from .machine import Machine
 from .names import name_in
@@ -79,22 +81,16 @@ def call_exit(kernel: Kernel, process: Process, words: list[str]) -> str:
     return "ok"
 
 
-CALLS: dict[str, Call] = {
-    "open": files.call_open, "create": making.call_create, "memfd": making.call_memfd, "eventfd": making.call_eventfd,
-    "pipe": making.call_pipe, "read": call_read, "write": call_write, "lseek": files.call_lseek, "dup": files.call_dup,
-    "dup2": files.call_dup2, "dupfd": files.call_dupfd, "getfl": files.call_getfl, "flags": files.call_flags,
-    "close": files.call_close, "unlink": files.call_unlink,
-    "socket": sockets.call_socket, "pair": sockets.call_pair, "bind": sockets.call_bind, "listen": sockets.call_listen,
-    "connect": connecting.call_connect, "accept": sockets.call_accept, "shut": sockets.call_shut,
-    "getopt": sockets.call_getopt, "setopt": sockets.call_setopt, "sockname": sockets.call_sockname,
-    "peername": sockets.call_peername, "send": sending.call_send, "recv": receiving.call_recv,
-    "poll": readiness.call_poll, "setids": users.call_setids, "fork": call_fork, "exec": call_exec, "exit": call_exit,
-}
-MAKING = {"create", "memfd", "eventfd", "pipe"}
-WITHOUT_DESCRIPTOR = MAKING | {"open", "unlink", "socket", "pair", "setids", "fork", "exec", "exit"}
-BEHIND_SERIAL = MAKING | {"dupfd", "getfl", "setids"}
-ADDRESS_PLACE = {"bind": 2, "connect": 2, "send": 2}
-PATH_PLACE = {"open": 1, "create": 1, "unlink": 1}
+MODULES = (files, making, sockets, connecting, sending, receiving, readiness, users, sys.modules[__name__])
+
+
+def call_of(word: str) -> Call:
+    """The function that makes a call."""
+    made: Call = next(vars(module)[f"call_{word}"] for module in MODULES if f"call_{word}" in vars(module))
+    return made
+
+
+CALLS: dict[str, Call] = {word: call_of(word) for word in FORMS}
 
 
 def state_of(process: Process, words: list[str]) -> str:

@@ -182,18 +182,12 @@ static void make_fork(struct process *process, const char *line) {
     say("child %u", number);
 }
 
-/* How many words a call has behind its process, and which of them are bytes. */
+/* How many words a call has behind its process, and which of them are bytes: rows that comparing/programs.py makes of
+ * extras/calls.json. */
 static const struct {
     const char *word;
     size_t count, bytes;
-} shapes[] = {
-    {"open", 4, 0}, {"create", 4, 0}, {"memfd", 2, 0}, {"eventfd", 3, 0}, {"pipe", 2, 0}, {"read", 3, 0}, {"write", 3, 3},
-    {"lseek", 4, 0}, {"dup", 2, 0}, {"dup2", 3, 0}, {"dupfd", 3, 0}, {"getfl", 2, 0}, {"flags", 3, 0},
-    {"close", 2, 0}, {"unlink", 2, 0}, {"socket", 3, 0}, {"pair", 3, 0}, {"bind", 3, 0}, {"listen", 3, 0},
-    {"connect", 3, 0}, {"accept", 3, 0}, {"shut", 3, 0}, {"getopt", 3, 0}, {"setopt", 4, 0}, {"sockname", 2, 0},
-    {"peername", 2, 0}, {"send", 6, 4}, {"recv", 5, 0}, {"poll", 2, 0}, {"setids", 3, 0}, {"fork", 1, 0}, {"exec", 1, 0},
-    {"exit", 1, 0},
-};
+} shapes[] = {CALL_SHAPES};
 
 /* Ends the run where a line isn't one of a script. */
 void check_call(char **word, size_t count) {

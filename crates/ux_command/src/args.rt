@@ -31,6 +31,8 @@ pub struct Args<'a> {
     pub dot: Option<Point>,
     /// Whether the calls are printed as a sequence diagram, instead of the trace.
     pub sequence: bool,
+    /// The file to which a page of the run is written, if one is asked for.
+    pub html: Option<&'a str>,
     /// In which order the processes' lines are made, where it isn't that of the script.
     pub order: Option<Order>,
     /// Which orders are made, where all are asked for.
@@ -127,6 +129,7 @@ pub fn read_args<'a>(alloc: Global, words: &'a [String]) -> Result<Args<'a>, Err
         holders,
         dot,
         sequence: matches.get_flag("sequence"),
+        html: matches.get_str("html"),
         order,
         orders,
         json: matches.get_flag("json"),
@@ -158,7 +161,8 @@ fn allows_several(matches: &ArgMatches<'_>) -> bool {
         || matches.get_flag("sequence");
     let views = matches.get_str("audit").is_some()
         || matches.get_str("holders").is_some()
-        || matches.get_str("dot").is_some();
+        || matches.get_str("dot").is_some()
+        || matches.get_str("html").is_some();
     let runs = matches.get_flag("check")
         || matches.get_flag("orders")
         || matches.get_flag("follow");
@@ -166,7 +170,14 @@ fn allows_several(matches: &ArgMatches<'_>) -> bool {
 }
 
 /// The options with a value.
-const VALUED: &[&str] = &["--audit", "--holders", "--dot", "--order", "--limit"];
+const VALUED: &[&str] = &[
+    "--audit",
+    "--holders",
+    "--dot",
+    "--html",
+    "--order",
+    "--limit",
+];
 
 /// Why no script is named, where the last word is the value of an option.
 const NO_SCRIPT: &str = "SCRIPT is missing: the last word is the value of the option before it";

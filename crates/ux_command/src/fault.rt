@@ -44,6 +44,9 @@ pub enum CommandFault {
     /// Not all orders were made.
     #[error("not all orders were made")]
     Limit,
+    /// The file for the page can't be written.
+    #[error("page not written")]
+    Page,
 }
 
 impl From<ScriptFault> for CommandFault {

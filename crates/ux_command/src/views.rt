@@ -37,11 +37,17 @@ pub(crate) fn with_views<'a>(
         .conflicts_with("holders")?
         .conflicts_with("dot")?
         .help("Prints the calls as a sequence diagram instead, in the language of Mermaid");
+    let html = Arg::new(alloc, "html")
+        .long("html")
+        .value_name("FILE")
+        .action(ArgAction::Set)
+        .help("Writes a page to FILE besides, on which the run can be walked through");
     command
         .arg(at_point(alloc, "audit", AUDIT))?
         .arg(at_point(alloc, "holders", HOLDERS))?
         .arg(dot)?
-        .arg(sequence)
+        .arg(sequence)?
+        .arg(html)
 }
 
 /// The moment that an option asks for, where the option is there. None where its value isn't a moment.

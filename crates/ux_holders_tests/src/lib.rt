@@ -1,4 +1,4 @@
-//! Tests of snapshots: their texts, their graphs, and their values.
+//! Tests of snapshots: their texts, their graphs, and their values; and of pages.
 #![tactic(auto)]
 
 #[cfg(test)]
@@ -9,6 +9,8 @@ mod graphs;
 mod listings;
 #[cfg(test)]
 mod moments;
+#[cfg(test)]
+mod pages;
 #[cfg(test)]
 mod sequences;
 #[cfg(test)]

@@ -7,6 +7,7 @@ use std::test::Fail;
 use ux_holders::{Snapshot, take_snapshot};
 use ux_kernel::Kernel;
 use ux_objects::FailAt;
+use ux_page::{Page, RunText};
 use ux_replay::replay_on;
 use ux_script::{line_numbers, make_serial, objects_of};
 use ux_sequence::sequence;
@@ -54,6 +55,24 @@ impl Run {
             Ok(text) => Ok(text),
             Err(_fault) => Err(Fail::from("a replay that differs")),
         }
+    }
+
+    /// The page of all calls.
+    pub(crate) fn page(&self, alloc: Global) -> Result<String, Fail> {
+        let mut kernel = kernel_of(alloc, &self.script)?;
+        let lines = line_numbers(alloc, &self.script, &self.history)?;
+        let run = RunText {
+            title: "calls",
+            lines: &lines,
+            history: &self.history,
+            end: "",
+        };
+        let mut page = Page::new(alloc, "a.ux")?;
+        if page.add_run(alloc, &run, &mut kernel).is_err() {
+            return Err(Fail::from("a replay that differs"));
+        }
+        let text = page.finish()?;
+        String::from_utf8(text).map_err(|_| Fail::from("a page that isn't UTF-8"))
     }
 }
 

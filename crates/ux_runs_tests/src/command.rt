@@ -123,6 +123,24 @@ fn several_scripts_go_with_what_is_expected(rt: HostRuntime) -> Result<(), Fail>
 }
 
 #[test]
+fn a_page_is_written_besides(rt: HostRuntime) -> Result<(), Fail> {
+    let words = texts(
+        rt.alloc(),
+        &["uxrun", "--html", "run.html", "--check", "a.ux"],
+    )?;
+    let Ok(args) = read_args(rt.alloc(), words.as_slice()) else {
+        return Err(Fail::from("not understood"));
+    };
+    assert!(rt; args.html == Some("run.html") && args.check && args.script == "a.ux");
+    let words = texts(rt.alloc(), &["uxrun", "--html", "a.ux"])?;
+    let reported = read_args(rt.alloc(), words.as_slice())
+        .err()
+        .ok_or("understood")?;
+    assert!(rt; reported.kind() == ErrorKind::MissingRequiredArgument);
+    Ok(())
+}
+
+#[test]
 fn a_script_that_an_option_took_is_missed(rt: HostRuntime) -> Result<(), Fail> {
     let words = texts(rt.alloc(), &["uxrun", "--check", "--audit", "-"])?;
     let reported = read_args(rt.alloc(), words.as_slice())
@@ -309,6 +327,7 @@ fn faults_have_their_texts(rt: HostRuntime) -> Result<(), Fail> {
             "expect differs in 2 of 3 outcomes",
         ),
         (CommandFault::Limit, "not all orders were made"),
+        (CommandFault::Page, "page not written"),
         (CommandFault::NoCall(3), "line 3 makes no call"),
         (CommandFault::LeftOut(2), "left out 2 of the lines"),
     ];

@@ -66,7 +66,7 @@ pub fn follow_script<
 
 /// Runs the script that this source has. What is at fault is reported at once, and counted at last.
 fn follow_source<
-    R: Threads + Wait + Clock + Print + Eprint + RandomSource + AllocGlobal + Sync,
+    R: Files + Threads + Wait + Clock + Print + Eprint + RandomSource + AllocGlobal + Sync,
     S: Read + Drop,
 >(rt: &R, args: &Args<'_>, source: S, kept: &mut Source) -> Result<(), CommandFault> {
     let alloc: Global = rt.alloc();

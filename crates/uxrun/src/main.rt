@@ -7,6 +7,7 @@ mod json;
 mod machines;
 mod moments;
 mod orders;
+mod page;
 mod printing;
 mod progress;
 mod reading;
@@ -20,6 +21,7 @@ use follow::follow_script;
 use json::print_json;
 use moments::{calls_until, print_moments};
 use orders::{Made, print_orders, run_in_order};
+use page::write_run;
 use printing::{print_comparison, print_run};
 use reading::script_of;
 use runs::{check_script, run_script};
@@ -58,7 +60,7 @@ fn run<
     }
     if let Some(orders) = args.orders {
         let expected = args.expect.then_some(expected.as_slice());
-        return print_orders(rt, &script, expected, orders, args.progress);
+        return print_orders(rt, args, &script, expected, orders);
     }
     let history = history_of(rt, args, &script, &expected)?;
     print_run(rt, args, &script, &expected, &history)?;
@@ -67,12 +69,12 @@ fn run<
 
 /// Prints what stands behind the trace: makes the calls once more, and reports who holds which descriptor, where it is
 /// asked for.
-fn print_rest<R: Threads + Wait + Clock + Print + Eprint + RandomSource + AllocGlobal + Sync>(
-    rt: &R,
-    args: &Args<'_>,
-    script: &Script,
-    history: Vec<Entry>,
-) -> Result<(), CommandFault> {
+fn print_rest<
+    R: Files + Threads + Wait + Clock + Print + Eprint + RandomSource + AllocGlobal + Sync,
+>(rt: &R, args: &Args<'_>, script: &Script, history: Vec<Entry>) -> Result<(), CommandFault> {
+    if let Some(file) = args.html {
+        write_run(rt, file, args.script, script, &history, "")?;
+    }
     if args.check {
         let meter = Meter::new(rt, args.progress, "calls made again");
         check_script(rt, script, &history, &meter)?;
@@ -100,7 +102,9 @@ fn print_check<R: Print + AllocGlobal>(
 
 /// Runs the script. Where it isn't run to its end, that is what is reported, behind what there is to print: also where
 /// it can't be printed.
-fn history_of<R: Threads + Wait + Clock + Print + Eprint + RandomSource + AllocGlobal + Sync>(
+fn history_of<
+    R: Files + Threads + Wait + Clock + Print + Eprint + RandomSource + AllocGlobal + Sync,
+>(
     rt: &R,
     args: &mut Args<'_>,
     script: &Script,
@@ -110,6 +114,10 @@ fn history_of<R: Threads + Wait + Clock + Print + Eprint + RandomSource + AllocG
         Ok(Made::Whole(history)) => Ok(history),
         Ok(Made::Cut(history, fault)) => {
             let _printed = print_run(rt, args, script, expected, &history);
+            if let Some(file) = args.html {
+                let end = format!(in rt.alloc(); "{fault}")?;
+                write_run(rt, file, args.script, script, &history, end.as_str())?;
+            }
             Err(fault)
         }
         Err(fault) => {

@@ -76,7 +76,7 @@ fn sequence_of<R: RandomSource + AllocGlobal>(
 }
 
 /// Why the calls weren't all made once more.
-fn fault_of(fault: ReplayFault) -> CommandFault {
+pub fn fault_of(fault: ReplayFault) -> CommandFault {
     match fault {
         ReplayFault::Differs(number) => CommandFault::Differs(number),
         ReplayFault::NoMemory(_) => CommandFault::Script(ScriptFault::NoMemory),

@@ -4,17 +4,19 @@ ghost use Rattle.ux_model.specs.Boot.{boot_state};
 ghost use Rattle.ux_script.specs.Objects.{object_of};
 
 use crate::machines::boot;
+use crate::page::{add_run, write_page};
 use crate::printing::{print_expected, print_trace};
 use std::alloc::Global;
 use std::io;
 use std::random::RandomSource;
-use std::rt::Clock;
-use ux_command::{CommandFault, Meter, Orders};
+use std::rt::{Clock, Files};
+use ux_command::{Args, CommandFault, Meter, Orders};
 use ux_kernel::Kernel;
 use ux_objects::FailAt;
 use ux_orders::{
     Boot, Found, Order, OrderFault, OrderList, Ran, Reduction, explore, explore_each, make_order,
 };
+use ux_page::Page;
 use ux_script::{differences, line_numbers, put_all};
 use ux_syntax::{Expectation, Script, ScriptFault, Waiting};
 use ux_types::{Entry, Pid};
@@ -106,17 +108,18 @@ fn found_of<R: Clock + Eprint + RandomSource + AllocGlobal>(
 }
 
 /// Runs the script in all orders, but at most in so many, and prints what they come to: how many orders and outcomes
-/// there are, and of each outcome the order, the trace, and where answers are expected which of them differ.
-pub fn print_orders<R: Print + Clock + Eprint + RandomSource + AllocGlobal>(
+/// there are, and of each outcome the order, the trace, and where answers are expected which of them differ. Writes a page
+/// of the outcomes besides, where one is asked for.
+pub fn print_orders<R: Files + Print + Clock + Eprint + RandomSource + AllocGlobal>(
     rt: &R,
+    args: &Args<'_>,
     script: &Script,
     expected: Option<&[Expectation]>,
     orders: Orders,
-    is_shown: bool,
 ) -> Result<(), CommandFault> {
     let mut machine = Machine {
         rt,
-        meter: Meter::new(rt, is_shown, "orders begun"),
+        meter: Meter::new(rt, args.progress, "orders begun"),
         fault: None,
     };
     let found = found_of(rt.alloc(), script, &mut machine, orders)?;
@@ -129,6 +132,9 @@ pub fn print_orders<R: Print + Clock + Eprint + RandomSource + AllocGlobal>(
         .count();
     println!(rt; "orders {}\noutcomes {count}", found.orders).map_err(|_| ScriptFault::Writing)?;
     let unexpected = print_outcomes(rt, script, expected, outcomes)?;
+    if let Some(file) = args.html {
+        write_outcomes(rt, file, args.script, script, outcomes)?;
+    }
     if !found.is_all {
         println!(rt; "not all orders were made").map_err(|_| ScriptFault::Writing)?;
     }
@@ -286,4 +292,53 @@ fn print_outcome<R: Print + AllocGlobal>(rt: &R, ran: &Ran) -> Result<(), Comman
         _ => println!(rt; "order {list}").map_err(|_| ScriptFault::Writing)?,
     }
     print_trace(rt, ran.entries())
+}
+
+/// Writes a page of the outcomes, in their order.
+fn write_outcomes<R: Files + RandomSource + AllocGlobal>(
+    rt: &R,
+    file: &str,
+    name: &str,
+    script: &Script,
+    outcomes: &[Ran],
+) -> Result<(), CommandFault> {
+    let mut page = Page::new(rt.alloc(), name)?;
+    let mut last: Option<&Ran> = None;
+    for _ in 0..outcomes.len() {
+        let Some(next) = next_behind(outcomes, last) else {
+            break;
+        };
+        last = Some(next);
+        if is_first(outcomes, next) {
+            add_outcome(rt, &mut page, script, next)?;
+        }
+    }
+    write_page(rt, file, page)
+}
+
+/// Adds an outcome to the page, by its order.
+fn add_outcome<R: RandomSource + AllocGlobal>(
+    rt: &R,
+    page: &mut Page,
+    script: &Script,
+    ran: &Ran,
+) -> Result<(), CommandFault> {
+    let alloc: Global = rt.alloc();
+    let list = OrderList(ran.entries());
+    let title = format!(in alloc; "order {list}")?;
+    let end = match ran {
+        Ran::Deadlock(_, waits) => {
+            let waiting = Waiting::new(waits.clone()?);
+            format!(in alloc; "deadlock: {waiting}")?
+        }
+        _ => String::from_str(alloc, "")?,
+    };
+    add_run(
+        rt,
+        page,
+        title.as_str(),
+        script,
+        ran.entries(),
+        end.as_str(),
+    )
 }
