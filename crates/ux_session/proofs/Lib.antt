@@ -1,0 +1,4 @@
+pub mod Sounding
+pub mod Growing
+pub mod Numbered
+pub mod Going

@@ -1,0 +1,4 @@
+pub mod Sessions
+pub mod Going
+pub mod Making
+pub mod Leading

@@ -1,0 +1,32 @@
+-- What a supervisor is told of a description: what poll(2) reports of it, and what is unread at its socket (ioctl(2), FIONREAD).
+use Rattle.std.specs.Prelude.{ℕ, Bool, ◌==◌, ◌&&◌, List, [], length, Option, Some, None}
+use Rattle.std.specs.List.{slice_get}
+use Rattle.ux_model.specs.Message.{Message, queued_bytes}
+use Rattle.ux_model.specs.Socket.{Socket}
+use Rattle.ux_model.specs.State.{State, socket_at}
+use Rattle.ux_model.specs.Readiness.{flags_at, not_open}
+use Rattle.ux_watch.specs.declared.told.Told.{Told}
+
+-- the unread messages of a socket, if there is one
+abbrev pub unread : Option Socket → List Message
+unread None = []
+unread (Some s) = s.queue
+
+-- of the description with this number, in this state
+abbrev pub told : State → ℕ → Told
+told S d = record { flags = flags_at S d; bytes = queued_bytes (unread (socket_at S d)); messages = length (unread (socket_at S d)) }
+
+-- of one that isn't there
+abbrev pub gone : Told
+gone = record { flags = not_open; bytes = 0; messages = 0 }
+
+abbrev pub is_same : Told → Told → Bool
+is_same a b = (a.flags.0 == b.flags.0) && ((a.bytes == b.bytes) && (a.messages == b.messages))
+
+abbrev pub bytes_of : Option Message → ℕ
+bytes_of None = 0
+bytes_of (Some m) = length m.bytes
+
+-- the bytes of the message at this place, if there is one
+abbrev pub bytes_at : List Message → ℕ → ℕ
+bytes_at queue i = bytes_of (slice_get queue i)
