@@ -6,6 +6,8 @@ complete -c uxrun -l echo -d 'instead of the trace, prints each call with its li
 complete -c uxrun -l json -d 'prints JSON instead of the trace, and of what --expect, --check, --audit and --holders print'
 complete -c uxrun -l follow -d 'makes the call of each line as soon as the line is read, and prints its line of the trace before it reads the next'
 complete -c uxrun -l expect -d 'compares the replies with those that comments of the script expect'
+complete -c uxrun -l tap -d 'with --expect, tells of each script whether its replies are the expected ones in TAP, the Test Anything Protocol'
+complete -c uxrun -l update -d 'writes the replies into the scripts, as comments that expect them'
 complete -c uxrun -l check -d 'boots the layer again, over file objects as they were at first, which don’t fail now, and makes the calls of the trace again'
 complete -c uxrun -l audit -x -d 'after the trace, reports which descriptors are open then, and through whom each came to its process'
 complete -c uxrun -l holders -x -d 'after the trace, lists who holds what then'

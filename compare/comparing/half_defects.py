@@ -4,7 +4,7 @@ from __future__ import annotations
 from typing import Callable
 from unittest import mock
 
-from reference import control, files, making, names, readiness, receiving, rooms, sending, sockets, trace
+from reference import agreed, control, files, lengths, making, names, readiness, receiving, rooms, sending, sockets, trace
 from reference.control import Item
 from reference.kernel import Kernel
 from reference.names import name_in
@@ -70,6 +70,37 @@ def _() -> Patches:
     def make(real: Callable) -> Callable:
         return lambda kernel, giving: None if giving.socket.is_datagram else real(kernel, giving)
     return [instead(sending, "check_rights_in_flight", make)]
+
+
+# ---- what waits
+
+@defect("inq", "a datagram socket tells all that waits")
+def _() -> Patches:
+    def make(real: Callable) -> Callable:
+        return lambda socket: agreed.waiting(socket) if socket.is_datagram else real(socket)
+    return [instead(lengths, "unread", make)]
+
+
+@defect("inq", "a listening socket tells that nothing waits")
+def _() -> Patches:
+    def make(real: Callable) -> Callable:
+        return lambda socket: 0 if socket.listens else real(socket)
+    return [instead(lengths, "unread", make)]
+
+
+@defect("inq", "a file tells all its bytes")
+def _() -> Patches:
+    def make(real: Callable) -> Callable:
+        return lambda kernel, description, target: len(target.data) if target.kind == "mem" else real(kernel, description, target)
+    return [instead(lengths, "bytes_ahead", make)]
+
+
+@defect("outq", "a socket without a peer is refused")
+def _() -> Patches:
+    def change(kernel: Kernel, process: Process, words: list[str], reply: str) -> str:
+        socket = kernel.socket(process, int(words[1]))
+        return reply if socket.is_datagram or socket.peer else "err ENOTCONN"
+    return answered("outq", change)
 
 
 # ---- flags of a description

@@ -70,6 +70,13 @@ def _() -> Patches:
     return when_made("eventfd", change)
 
 
+@defect("eventfd", "a semaphore is read whole")
+def _() -> Patches:
+    def change(kernel: Kernel, process: Process, words: list[str], made: FileObject) -> None:
+        made.is_semaphore = False
+    return when_made("eventfd", change)
+
+
 @defect("memfd", "a file in memory has no close-on-exec")
 def _() -> Patches:
     def change(kernel: Kernel, process: Process, words: list[str], made: FileObject) -> None:

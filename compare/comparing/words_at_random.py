@@ -42,6 +42,12 @@ def open_flags(random: Random) -> str:
     return random.choice(["-", "-", "-", "-", "x", "x", "n", "a", "nx", "ax", "an", "anx"])
 
 
+def counter_flags(random: Random) -> str:
+    """EFLAGS: those of OFLAGS, and in one of three a semaphore's."""
+    flags = open_flags(random)
+    return f"{flags.strip('-')}s" if random.random() < 0.33 else flags
+
+
 def send_flags(random: Random) -> str:
     """MFLAGS of a send, mostly none."""
     return random.choice(["-"] * 30 + ["d", "d", "d", "p", "t", "x", "dpt"])

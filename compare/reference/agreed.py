@@ -36,6 +36,11 @@ def pipe_has_room(target: FileObject) -> bool:
     return len(target.data) + PIPE_WHOLE <= PIPE_BYTES
 
 
+def unreceived(socket: Socket) -> int:
+    """The bytes that a socket's peer hasn't received."""
+    return 0 if socket.peer is None or socket.peer.is_gone else waiting(socket.peer)
+
+
 def is_full(listener: Socket) -> bool:
     """Whether as many connections wait as the backlog says."""
     return len(listener.pending) >= max(1, min(BACKLOG, listener.backlog))

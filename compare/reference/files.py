@@ -112,9 +112,9 @@ def taken_from(description: Description, target: FileObject, wanted: int) -> byt
         description.offset += len(data)
         return data
     if target.kind == "counter":
-        data = target.value.to_bytes(8, "little")
-        target.value = 0
-        return data
+        taken = 1 if target.is_semaphore else target.value
+        target.value -= taken
+        return taken.to_bytes(8, "little")
     data = bytes(target.data[:wanted])
     del target.data[:wanted]
     left = len(data)

@@ -51,10 +51,10 @@ def call_memfd(kernel: Kernel, process: Process, words: list[str]) -> str:
 
 def call_eventfd(kernel: Kernel, process: Process, words: list[str]) -> str:
     """eventfd(2)."""
-    check_flags(words[2], "nx")
+    check_flags(words[2], "nxs")
     number = kernel.free_number(process)
     made = new_object(kernel, "counter")
-    made.value = int(words[1])
+    made.value, made.is_semaphore = int(words[1]), "s" in words[2]
     open_target(kernel, process, number, made, "rw", words[2])
     return f"fd {number}"
 

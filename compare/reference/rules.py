@@ -64,6 +64,9 @@ class Rule(Enum):
     OPTIONS_OF_A_SERVERS_END = "options-of-a-servers-end"
     RIGHTS_BEHIND_A_PEEK = "rights-behind-a-peek"
     FLAGS_OF_THE_REPLAY = "flags-of-the-replay"
+    BYTES_BEHIND_THE_END = "bytes-behind-the-end"
+    MEMORY_OF_WHAT_WAS_SENT = "memory-of-what-was-sent"
+    OUTQ_OF_DATAGRAMS = "outq-of-datagrams"
 
 
 ALL_RULES = frozenset(Rule)

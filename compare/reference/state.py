@@ -31,6 +31,7 @@ class FileObject:
     append: bool = False
     nonblocking: bool = False
     has_any_offset: bool = False
+    is_semaphore: bool = False
 
 
 @dataclass(eq=False)

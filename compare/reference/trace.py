@@ -6,7 +6,7 @@ from copy import copy
 from dataclasses import dataclass, field
 from typing import Callable
 
-from . import connecting, files, making, readiness, receiving, sending, sockets, users
+from . import connecting, files, lengths, making, readiness, receiving, sending, sockets, users
 from .calls import ADDRESS_PLACE, FORMS, PATH_PLACE, WITHOUT_DESCRIPTOR
 from .kernel import Kernel
 from .machine import Machine
@@ -81,7 +81,7 @@ def call_exit(kernel: Kernel, process: Process, words: list[str]) -> str:
     return "ok"
 
 
-MODULES = (files, making, sockets, connecting, sending, receiving, readiness, users, sys.modules[__name__])
+MODULES = (files, making, lengths, sockets, connecting, sending, receiving, readiness, users, sys.modules[__name__])
 
 
 def call_of(word: str) -> Call:

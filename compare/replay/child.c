@@ -118,8 +118,8 @@ static const struct {
 } calls[] = {
     {"open", do_open}, {"create", do_create}, {"memfd", do_memfd}, {"eventfd", do_eventfd}, {"pipe", do_pipe},
     {"counter", do_counter}, {"read", do_read}, {"write", do_write}, {"lseek", do_lseek},
-    {"dup", do_dup}, {"dup2", do_dup2}, {"dupfd", do_dupfd}, {"getfl", do_getfl}, {"flags", do_flags}, {"close", do_close},
-    {"unlink", do_unlink},
+    {"dup", do_dup}, {"dup2", do_dup2}, {"dupfd", do_dupfd}, {"getfl", do_getfl}, {"flags", do_flags}, {"inq", do_inq}, {"outq", do_outq},
+    {"close", do_close}, {"unlink", do_unlink},
     {"socket", do_socket}, {"pair", do_pair}, {"bind", do_bind}, {"listen", do_listen}, {"connect", do_connect},
     {"accept", do_accept}, {"shut", do_shut}, {"getopt", do_getopt}, {"setopt", do_setopt}, {"sockname", do_name},
     {"peername", do_name}, {"send", do_send}, {"recv", do_recv}, {"poll", do_poll}, {"setids", do_setids},

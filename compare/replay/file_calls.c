@@ -2,9 +2,11 @@
 #include "replay.h"
 #include <errno.h>
 #include <fcntl.h>
+#include <linux/sockios.h>
 #include <poll.h>
 #include <stdlib.h>
 #include <string.h>
+#include <sys/ioctl.h>
 #include <sys/stat.h>
 #include <unistd.h>
 
@@ -97,6 +99,17 @@ void do_flags(char **word) {
     int answer = fcntl(number, F_SETFL, open_flags_in(word[3]) & ~O_CLOEXEC);
     say_done(answer < 0 ? answer : fcntl(number, F_SETFD, strchr(word[3], 'x') ? FD_CLOEXEC : 0));
 }
+
+/* What an ioctl tells of a queue. Of a file whose offset is behind its end it is negative. */
+static void say_length(int number, unsigned long asked) {
+    int length;
+    if (ioctl(number, asked, &length) < 0) say_error();
+    else say("n %d", length);
+}
+
+void do_inq(char **word) { say_length(descriptor_in(word[2]), FIONREAD); }
+
+void do_outq(char **word) { say_length(descriptor_in(word[2]), SIOCOUTQ); }
 
 void do_close(char **word) { say_done(close(descriptor_in(word[2]))); }
 

@@ -85,7 +85,9 @@ int make_file_in_memory(const char *flags) {
                                     (strchr(flags, 'a') ? (unsigned)O_APPEND : 0u));
 }
 
-int make_counter(unsigned value, int flags) { return eventfd(value, flags); }
+int make_counter(unsigned value, int is_semaphore, int flags) {
+    return eventfd(value, flags | (is_semaphore ? EFD_SEMAPHORE : 0));
+}
 
 int make_pipe(int *ends, int flags) { return pipe2(ends, flags); }
 

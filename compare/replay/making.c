@@ -2,6 +2,7 @@
  * the descriptors of what has no path, beside the reply, so that it sees when that goes. */
 #include "replay.h"
 #include <fcntl.h>
+#include <string.h>
 
 int made[MOST_MADE];
 unsigned made_count;
@@ -25,7 +26,7 @@ void do_memfd(char **word) {
 }
 
 void do_eventfd(char **word) {
-    int number = make_counter(number_in(word[2]), open_flags_in(word[3]));
+    int number = make_counter(number_in(word[2]), strchr(word[3], 's') != NULL, open_flags_in(word[3]));
     keep_made(number);
     say_count("fd", number);
 }

@@ -47,7 +47,7 @@ static void make_file(struct object *object) {
 }
 
 static void hold_counter(unsigned i) {
-    objects[i].counter = make_counter(0, O_CLOEXEC);
+    objects[i].counter = make_counter(0, 0, O_CLOEXEC);
     objects[i].is_held = 1;
     if (objects[i].counter < 0 || watch_references(objects[i].counter, i) < 0) fail("a counter");
 }

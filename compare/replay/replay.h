@@ -162,6 +162,7 @@ void say_items(struct msghdr *message);
 /* file_calls.c, making.c, socket_calls.c, message_calls.c, users.c: the calls, each by its words */
 void do_create(char **word), do_memfd(char **word), do_eventfd(char **word), do_pipe(char **word);
 void do_open(char **word), do_counter(char **word), do_read(char **word), do_write(char **word), do_lseek(char **word);
+void do_inq(char **word), do_outq(char **word);
 void do_dup(char **word), do_dup2(char **word), do_dupfd(char **word), do_getfl(char **word), do_flags(char **word), do_close(char **word), do_unlink(char **word);
 void do_socket(char **word), do_pair(char **word), do_bind(char **word), do_listen(char **word), do_connect(char **word);
 void do_accept(char **word), do_shut(char **word), do_getopt(char **word), do_setopt(char **word), do_name(char **word);
@@ -225,7 +226,7 @@ int watch_file(const char *name);
 int watch_file_in_memory(int number);
 void see_watched_go(void (*see)(int watch, int *gone), int *gone);
 int make_file_in_memory(const char *flags);
-int make_counter(unsigned value, int flags);
+int make_counter(unsigned value, int is_semaphore, int flags);
 int make_pipe(int *ends, int flags);
 int watch_references(int number, unsigned object);
 int is_referred_to(unsigned object);

@@ -45,6 +45,12 @@ SWITCHES = [
     (Rule.RECORD_END, ["pair seq -", "write 0 61"], "recv 1 9 0 -", "got 1 61 EOR - -", "got 1 61 - - -"),
     (Rule.RIGHTS_WITHOUT_DATA, ["pair stream -"], "send 0 - - r:0 -", "err EINVAL", "n 0"),
     (Rule.SEND_FLAGS, ["pair stream -"], "send 0 - 61 - p", "err EINVAL", "n 1"),
+    (Rule.BYTES_BEHIND_THE_END, ["memfd -", "write 0 616263", "lseek 0 10 set"], "inq 0", "n 0", "n -7"),
+    (Rule.BYTES_BEHIND_THE_END, ["memfd -", "write 0 616263", "lseek 0 4294967290 set"], "inq 0", "n 0", "n 9"),
+    (Rule.MEMORY_OF_WHAT_WAS_SENT, ["pair stream -", "send 0 - 616263 - -"], "outq 0", "n 3", "n 768"),
+    (Rule.MEMORY_OF_WHAT_WAS_SENT, ["pair seq -", "send 0 - - - -"], "outq 0", "n 0", "n 768"),
+    (Rule.OUTQ_OF_DATAGRAMS, ["pair dgram -"], "outq 0", "err EOPNOTSUPP", "n 0"),
+    (Rule.OUTQ_OF_DATAGRAMS, ["pair dgram -", "send 0 - 616263 - -"], "outq 0", "err EOPNOTSUPP", "n 768"),
 ]
 PADDED = "x:" + "1400000000000000" + "01000000" + "01000000" + "00000000" + "00000000"  # a right, and padding behind it (cmsg(3))
 TOO_LONG = "x:" + "ff00000000000000" + "01000000" + "01000000" + "00000000"
@@ -70,10 +76,15 @@ ALIKE = [
     (Rule.LIMIT_OF_RIGHTS_IN_FLIGHT, ["pair dgram -"], "send 0 - 61 r:0 -", "n 1"),
     (Rule.PRIVILEGE, ["pair dgram -"], "send 0 - 61 c:1,0,0 -", "err EPERM"),
     (Rule.PATH_OF_NO_FILE, ["memfd -"], "bind 0 p:", "err ENOTSOCK"),
+    (Rule.BYTES_BEHIND_THE_END, ["memfd -", "write 0 616263", "lseek 0 1 set"], "inq 0", "n 2"),
+    (Rule.BYTES_BEHIND_THE_END, ["memfd -", "write 0 616263"], "inq 0", "n 0"),
+    (Rule.MEMORY_OF_WHAT_WAS_SENT, ["pair stream -", "send 0 - 616263 - -", "recv 1 9 0 -"], "outq 0", "n 0"),
+    (Rule.MEMORY_OF_WHAT_WAS_SENT, ["pair stream -", "send 0 - 616263 - -", "close 1"], "outq 0", "n 0"),
+    (Rule.MEMORY_OF_WHAT_WAS_SENT, ["memfd -"], "outq 0", "err ENOTTY"),
 ]
 # What both refuse alike, before all else (pipe2(2), eventfd(2), memfd_create(2)).
-REFUSED = ["pipe a", "pipe anx", "eventfd 0 a", "eventfd 5 ax", "memfd n", "memfd a", "memfd anx"]
-TAKEN = ["pipe nx", "eventfd 0 nx", "memfd x"]
+REFUSED = ["pipe a", "pipe anx", "eventfd 0 a", "eventfd 5 ax", "eventfd 5 anxs", "memfd n", "memfd a", "memfd anx"]
+TAKEN = ["pipe nx", "eventfd 0 nx", "eventfd 0 nxs", "memfd x"]
 
 
 def answers(calls, rules):
@@ -119,6 +130,24 @@ class Switches(unittest.TestCase):
             for call in TAKEN:
                 self.assertRegex(answers([call], rules)[-1], "^fds? 0", call)
                 self.assertEqual(answers(["memfd -", *full, call], rules)[-1], "err EMFILE", call)
+
+    def test_a_semaphore_is_taken_one_by_one(self):
+        one, two = ("bytes " + value.to_bytes(8, "little").hex() for value in (1, 2))
+        for rules in (NO_RULES, ALL_RULES):
+            self.assertEqual(answers(["eventfd 2 s", "read 0 8", "read 0 8", "read 0 8"], rules)[1:], [one, one, "err EAGAIN"])
+            self.assertEqual(answers(["eventfd 2 -", "read 0 8", "read 0 8"], rules)[1:], [two, "err EAGAIN"])
+
+    def test_what_waits_is_counted_by_kind(self):
+        sent = ["send 0 - 616263 - -", "send 0 - - - -", "send 0 - 6465 - -"]
+        for rules in (NO_RULES, ALL_RULES):
+            self.assertEqual([answers([f"pair {kind} -", *sent, "inq 1"], rules)[-1] for kind in ("stream", "seq", "dgram")],
+                             ["n 5", "n 5", "n 3"])
+            self.assertEqual([answers(["pair dgram -", *sent[1:], "inq 1"], rules)[-1], answers(["pair dgram -", "inq 1"], rules)[-1]],
+                             ["n 0", "n 0"])
+            self.assertEqual([answers(["pipe -", "write 1 616263", f"inq {end}"], rules)[-1] for end in (0, 1)], ["n 3", "n 3"])
+            self.assertEqual(answers(["eventfd 1 -", "inq 0"], rules)[-1], "err ENOTTY")
+            self.assertEqual(answers(["socket stream -", "bind 0 a:x", "listen 0 1", "inq 0", "outq 0"], rules)[-2:], ["err EINVAL", "n 0"])
+            self.assertEqual(answers(["inq 0", "outq 0"], rules), ["err EBADF", "err EBADF"])
 
     def test_a_pipes_pages_are_read_as_they_were_written(self):
         calls = ["pipe -", f"write 1 {'61' * 5000}", f"write 1 {'62' * 3000}", "read 0 4500", "read 0 100000"]

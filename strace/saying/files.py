@@ -152,12 +152,13 @@ def say_eventfd(world: World, block: Block, process: Process, args: Arguments, r
     flags = flags_of(args[1]) if len(args) > 1 else set()
     start = number_of(args[0], 0)
     on_exec = "EFD_CLOEXEC" in flags
-    makes = world.objects.may_make and "EFD_SEMAPHORE" not in flags
-    thing = world.objects.make(Kind.COUNTER) if makes else None if "EFD_SEMAPHORE" in flags else world.objects.of_header(Kind.COUNTER)
+    makes, is_semaphore = world.objects.may_make, "EFD_SEMAPHORE" in flags
+    thing = world.objects.make(Kind.COUNTER) if makes else None if is_semaphore else world.objects.of_header(Kind.COUNTER)
     description = Description(Kind.COUNTER if thing else Kind.OPAQUE, "a counter", "EFD_NONBLOCK" in flags,
                               inode=result.note or "anon_inode:[eventfd]", thing=thing)
     letters = world.letters(description, on_exec)
     if makes:
+        letters = f"{letters.strip('-')}s" if is_semaphore else letters
         world.make(block, process, result.value, description, on_exec, f"eventfd {start} {letters}")
         return
     world.make(block, process, result.value, description, on_exec, f"open {thing.name} rw {letters}" if thing else None)

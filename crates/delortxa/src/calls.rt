@@ -108,13 +108,24 @@ pub trait Calls<C: Copy> {
         reply.fd()
     }
 
-    /// eventfd(2): the new descriptor, of a new counter with this value.
+    /// eventfd(2): the new descriptor, of a new counter with this value, of which a read takes all.
     #[tactic(auto, using(crate::proofs::Calling::fails))]
     final fn event_fd(&mut self, who: C, value: u32, flags: OpenFlags) -> Result<Fd, CallError>
-        ensures made { IfOk result (λ new. did who self.old self.new (Request.EventFd value flags) (Reply.Fd new)) }
-        ensures failed { IfErr result (λ error. Fails did unmade who self.old self.new (Request.EventFd value flags) error) }
+        ensures made { IfOk result (λ new. did who self.old self.new (Request.EventFd value false flags) (Reply.Fd new)) }
+        ensures failed { IfErr result (λ error. Fails did unmade who self.old self.new (Request.EventFd value false flags) error) }
     {
         let request = call::event_fd(value, flags);
+        let reply = self.ask(who, &request)?;
+        reply.fd()
+    }
+
+    /// eventfd(2) with EFD_SEMAPHORE: the new descriptor, of a new counter with this value, of which a read takes 1.
+    #[tactic(auto, using(crate::proofs::Calling::fails))]
+    final fn semaphore(&mut self, who: C, value: u32, flags: OpenFlags) -> Result<Fd, CallError>
+        ensures made { IfOk result (λ new. did who self.old self.new (Request.EventFd value true flags) (Reply.Fd new)) }
+        ensures failed { IfErr result (λ error. Fails did unmade who self.old self.new (Request.EventFd value true flags) error) }
+    {
+        let request = call::semaphore(value, flags);
         let reply = self.ask(who, &request)?;
         reply.fd()
     }
@@ -216,6 +227,30 @@ pub trait Calls<C: Copy> {
         let request = call::set_flags(fd, flags);
         let reply = self.ask(who, &request)?;
         reply.done()
+    }
+
+    /// ioctl(2), FIONREAD, which SIOCINQ is of a socket: how many bytes are ready to be read. It refuses a counter with ENOTTY, and
+    /// a listening socket with EINVAL.
+    #[tactic(auto, using(crate::proofs::Calling::fails))]
+    final fn in_queue(&mut self, who: C, fd: Fd) -> Result<usize, CallError>
+        ensures made { IfOk result (λ waiting. did who self.old self.new (Request.InQueue fd) (Reply.Count waiting)) }
+        ensures failed { IfErr result (λ error. Fails did unmade who self.old self.new (Request.InQueue fd) error) }
+    {
+        let request = call::in_queue(fd);
+        let reply = self.ask(who, &request)?;
+        reply.count()
+    }
+
+    /// ioctl(2), SIOCOUTQ: how many bytes the peer hasn't received yet. It refuses a file object with ENOTTY, and a datagram
+    /// socket with EOPNOTSUPP.
+    #[tactic(auto, using(crate::proofs::Calling::fails))]
+    final fn out_queue(&mut self, who: C, fd: Fd) -> Result<usize, CallError>
+        ensures made { IfOk result (λ waiting. did who self.old self.new (Request.OutQueue fd) (Reply.Count waiting)) }
+        ensures failed { IfErr result (λ error. Fails did unmade who self.old self.new (Request.OutQueue fd) error) }
+    {
+        let request = call::out_queue(fd);
+        let reply = self.ask(who, &request)?;
+        reply.count()
     }
 
     /// close(2).

@@ -71,6 +71,13 @@ impl FileObject for AnyObject {
         }
     }
 
+    fn bytes_ahead(&self, at: u64) -> Option<usize> {
+        match self {
+            AnyObject::Plain(plain) => plain.bytes_ahead(at),
+            AnyObject::Failing(failing) => failing.bytes_ahead(at),
+        }
+    }
+
     fn ready(&self) -> (bool, bool) {
         match self {
             AnyObject::Plain(plain) => plain.ready(),

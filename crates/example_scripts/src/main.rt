@@ -45,6 +45,8 @@ const SCRIPTS: &[&str] = &[
     "further_descriptors",
     "numbers_from_a_minimum",
     "file_objects_are_made",
+    "semaphore_taken_one_by_one",
+    "what_waits_in_queues",
     "nul_in_names",
     "longest_names",
     "one_name_wanted_twice",

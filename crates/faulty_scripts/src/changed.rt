@@ -18,6 +18,7 @@ const VALID: &[&str] = &[
     "1 read 0 42",
     "1 write 10 61ff",
     "1 lseek 0 -12 cur",
+    "1 eventfd 7 anxs",
     "1 socket stream nx",
     "1 bind 0 a:%00b",
     "1 listen 0 -3",

@@ -1,5 +1,5 @@
 -- Where a holding came from, by the request of the entry that gave it.
-use Rattle.std.proofs.Common.{◌≡◌, ◌⊎◌, inl, inr, ℕ, ◌<◌, ◌≤◌, ◌==◌, true, false, List, [], length, get_or, Option, None, Some, MatchOption}
+use Rattle.std.proofs.Common.{◌≡◌, ◌⊎◌, inl, inr, ℕ, Bool, ◌<◌, ◌≤◌, ◌==◌, true, false, List, [], length, get_or, Option, None, Some, MatchOption}
 use Rattle.std.proofs.Common.{option_map, refl, ap, sym, ◌∙◌, subst, arith, slice_get}
 use Rattle.std.specs.Prelude.{IfSome, IfNone}
 use Rattle.std.specs.List.{list_any}
@@ -166,7 +166,7 @@ pub record GivesNot (r : Request) : Type 0 where
   pub not_open : (path : Name) (mode : Mode) (flags : OpenFlags) → r ≡ Request.Open path mode flags → ⊥
   pub not_create : (path : Name) (mode : Mode) (flags : OpenFlags) → r ≡ Request.Create path mode flags → ⊥
   pub not_mem_fd : (flags : OpenFlags) → r ≡ Request.MemFd flags → ⊥
-  pub not_event_fd : (value : ℕ) (flags : OpenFlags) → r ≡ Request.EventFd value flags → ⊥
+  pub not_event_fd : (value : ℕ) (semaphore : Bool) (flags : OpenFlags) → r ≡ Request.EventFd value semaphore flags → ⊥
   pub not_pipe : (flags : OpenFlags) → r ≡ Request.Pipe flags → ⊥
   pub not_socket : (kind : SockType) (flags : OpenFlags) → r ≡ Request.Socket kind flags → ⊥
   pub not_pair : (kind : SockType) (flags : OpenFlags) → r ≡ Request.SocketPair kind flags → ⊥
@@ -181,7 +181,7 @@ no_sources : (S : State) (p : ℕ) (r : Request) → GivesNot r → sources S p 
 no_sources S p (Request.Open path mode flags) g = absurd (g.not_open path mode flags refl)
 no_sources S p (Request.Create path mode flags) g = absurd (g.not_create path mode flags refl)
 no_sources S p (Request.MemFd flags) g = absurd (g.not_mem_fd flags refl)
-no_sources S p (Request.EventFd value flags) g = absurd (g.not_event_fd value flags refl)
+no_sources S p (Request.EventFd value semaphore flags) g = absurd (g.not_event_fd value semaphore flags refl)
 no_sources S p (Request.Pipe flags) g = absurd (g.not_pipe flags refl)
 no_sources S p (Request.Socket kind flags) g = absurd (g.not_socket kind flags refl)
 no_sources S p (Request.SocketPair kind flags) g = absurd (g.not_pair kind flags refl)
@@ -203,7 +203,7 @@ abbrev pub Makes : Request → Type 0
 Makes r = ((x : Name) × (y : Mode) × (z : OpenFlags) × (r ≡ Request.Open x y z))
     ⊎ (((x : Name) × (y : Mode) × (z : OpenFlags) × (r ≡ Request.Create x y z))
     ⊎ (((x : OpenFlags) × (r ≡ Request.MemFd x))
-    ⊎ (((x : ℕ) × (y : OpenFlags) × (r ≡ Request.EventFd x y))
+    ⊎ (((x : ℕ) × (y : Bool) × (z : OpenFlags) × (r ≡ Request.EventFd x y z))
     ⊎ (((x : OpenFlags) × (r ≡ Request.Pipe x))
     ⊎ (((x : SockType) × (y : OpenFlags) × (r ≡ Request.Socket x y))
     ⊎ (((x : SockType) × (y : OpenFlags) × (r ≡ Request.SocketPair x y)) ⊎ ((x : Fd) × (y : OpenFlags) × (r ≡ Request.Accept x y))))))))
@@ -212,7 +212,7 @@ pub makes_way : (r : Request) (o : Option ℕ) → Makes r → how_of r o ≡ So
 makes_way r o (inl w) = ap (λ (x : Request). how_of x o) w.3
 makes_way r o (inr (inl w)) = ap (λ (x : Request). how_of x o) w.3
 makes_way r o (inr (inr (inl w))) = ap (λ (x : Request). how_of x o) w.1
-makes_way r o (inr (inr (inr (inl w)))) = ap (λ (x : Request). how_of x o) w.2
+makes_way r o (inr (inr (inr (inl w)))) = ap (λ (x : Request). how_of x o) w.3
 makes_way r o (inr (inr (inr (inr (inl w))))) = ap (λ (x : Request). how_of x o) w.1
 makes_way r o (inr (inr (inr (inr (inr (inl w)))))) = ap (λ (x : Request). how_of x o) w.2
 makes_way r o (inr (inr (inr (inr (inr (inr (inl w))))))) = ap (λ (x : Request). how_of x o) w.2

@@ -131,7 +131,11 @@ fn making(alloc: Global, new: New, cloexec: bool) -> Result<Request, AllocError>
             flags,
         },
         New::Memory => Request::MemFd { flags },
-        New::Counter => Request::EventFd { value: 7, flags },
+        New::Counter => Request::EventFd {
+            value: 7,
+            semaphore: false,
+            flags,
+        },
         New::Pipe => Request::Pipe { flags },
     })
 }

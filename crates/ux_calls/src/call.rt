@@ -1,6 +1,6 @@
 //! The requests of the calls, with the arguments that the manual pages give. None is a fork, an exit
 //! or the end of the layer, as each contract's right side shows.
-ghost use Rattle.std.specs.Prelude.{◌≡◌, ◌≤◌, [], None, IfOk, map, min};
+ghost use Rattle.std.specs.Prelude.{◌≡◌, ◌≤◌, [], None, IfOk, false, map, min, true};
 ghost use Rattle.ux_model.specs.Types.{Request, Addr};
 ghost use Rattle.ux_model.specs.Limits.{rights_limit};
 ghost use Rattle.ux_model.specs.Delivery.{control_bytes, rights_fit};
@@ -69,11 +69,26 @@ pub fn mem_fd(flags: OpenFlags) -> Request
     Request::MemFd { flags }
 }
 
-/// eventfd(2): a new counter with this value.
+/// eventfd(2): a new counter with this value, of which a read takes all.
 pub fn event_fd(value: u32, flags: OpenFlags) -> Request
-    ensures { result ≡ Request.EventFd value flags }
+    ensures { result ≡ Request.EventFd value false flags }
 {
-    Request::EventFd { value, flags }
+    Request::EventFd {
+        value,
+        semaphore: false,
+        flags,
+    }
+}
+
+/// eventfd(2) with EFD_SEMAPHORE: a new counter with this value, of which a read takes 1.
+pub fn semaphore(value: u32, flags: OpenFlags) -> Request
+    ensures { result ≡ Request.EventFd value true flags }
+{
+    Request::EventFd {
+        value,
+        semaphore: true,
+        flags,
+    }
 }
 
 /// pipe2(2): a new pipe.
@@ -142,6 +157,20 @@ pub fn set_flags(fd: Fd, flags: OpenFlags) -> Request
     ensures { result ≡ Request.SetFlags fd flags }
 {
     Request::SetFlags { fd, flags }
+}
+
+/// ioctl(2), FIONREAD, which SIOCINQ is of a socket: how many bytes are ready to be read.
+pub fn in_queue(fd: Fd) -> Request
+    ensures { result ≡ Request.InQueue fd }
+{
+    Request::InQueue { fd }
+}
+
+/// ioctl(2), SIOCOUTQ: how many bytes the peer hasn't received yet.
+pub fn out_queue(fd: Fd) -> Request
+    ensures { result ≡ Request.OutQueue fd }
+{
+    Request::OutQueue { fd }
 }
 
 /// close(2).

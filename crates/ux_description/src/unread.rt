@@ -1,5 +1,7 @@
 //! The messages that wait at a socket, looked at where they are.
 ghost use Rattle.std.specs.Prelude.{◌≡◌, length, None, option_map, option_and_then, slice_get};
+ghost use Rattle.ux_model.specs.Message.{queued_bytes};
+ghost use Rattle.ux_model.specs.QueueLengths.{waiting_bytes};
 
 use crate::queue::Queue;
 use crate::socket::Socket;
@@ -32,6 +34,26 @@ impl Socket {
         match &self.queue {
             Queue::Stream(queue) => queue.len(),
             Queue::Dgram(queue) | Queue::Seq(queue) => queue.len(),
+        }
+    }
+
+    /// How many bytes wait to be received, in all messages.
+    pub fn queued_bytes(&self) -> usize
+        ensures { result ≡ queued_bytes self.now.queue }
+    {
+        match &self.queue {
+            Queue::Stream(queue) => queue.len_bytes(),
+            Queue::Dgram(queue) | Queue::Seq(queue) => queue.len_bytes(),
+        }
+    }
+
+    /// How many bytes are to be read, as FIONREAD of ioctl(2) has it: of a datagram socket those of the oldest datagram.
+    pub fn waiting_bytes(&self) -> usize
+        ensures { result ≡ waiting_bytes self.now }
+    {
+        match &self.queue {
+            Queue::Dgram(queue) => queue.first_len(),
+            _ => self.queued_bytes(),
         }
     }
 

@@ -45,6 +45,7 @@ const CALLS: &[(&str, Elsewhere)] = &[
     ("writev", Elsewhere::Here("write")),
     ("dup3", Elsewhere::Here("dup2")),
     ("fcntl", Elsewhere::Here("flags, getfl or dupfd")),
+    ("ioctl", Elsewhere::Here("inq or outq")),
     ("socketpair", Elsewhere::Here("pair")),
     ("shutdown", Elsewhere::Here("shut")),
     ("accept4", Elsewhere::Here("accept")),

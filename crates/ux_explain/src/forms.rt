@@ -271,6 +271,7 @@ impl Form {
                 &["type", "error", "passcred", "peercred", "accept", "qlimit"],
             ),
             FieldKind::OpenFlags => Form::Letters(field.sign, "anx"),
+            FieldKind::CounterFlags => Form::Letters(field.sign, "anxs"),
             FieldKind::MsgFlags => Form::Letters(field.sign, "dptx"),
             FieldKind::Control => Form::Control,
         }

@@ -19,6 +19,8 @@ word_text CallWord.Dup2 = codes "dup2"
 word_text CallWord.DupFrom = codes "dupfd"
 word_text CallWord.GetFlags = codes "getfl"
 word_text CallWord.Flags = codes "flags"
+word_text CallWord.Inq = codes "inq"
+word_text CallWord.Outq = codes "outq"
 word_text CallWord.Close = codes "close"
 word_text CallWord.Unlink = codes "unlink"
 word_text CallWord.Socket = codes "socket"
@@ -45,7 +47,7 @@ abbrev pub request_word : Request → CallWord
 request_word (Request.Open path mode flags) = CallWord.Open
 request_word (Request.Create path mode flags) = CallWord.Create
 request_word (Request.MemFd flags) = CallWord.MemFd
-request_word (Request.EventFd value flags) = CallWord.EventFd
+request_word (Request.EventFd value semaphore flags) = CallWord.EventFd
 request_word (Request.Pipe flags) = CallWord.Pipe
 request_word (Request.Read fd n) = CallWord.Read
 request_word (Request.Write fd bytes) = CallWord.Write
@@ -55,6 +57,8 @@ request_word (Request.Dup2 fd to) = CallWord.Dup2
 request_word (Request.DupFrom fd minimum) = CallWord.DupFrom
 request_word (Request.GetFlags fd) = CallWord.GetFlags
 request_word (Request.SetFlags fd flags) = CallWord.Flags
+request_word (Request.InQueue fd) = CallWord.Inq
+request_word (Request.OutQueue fd) = CallWord.Outq
 request_word (Request.Close fd) = CallWord.Close
 request_word (Request.Unlink path) = CallWord.Unlink
 request_word (Request.Socket kind flags) = CallWord.Socket
@@ -142,6 +146,9 @@ opt_form = (codes "opt", codes "OPT", FieldKind.SockOpt)
 abbrev oflags_form : List ℕ × List ℕ × FieldKind
 oflags_form = (codes "flags", codes "OFLAGS", FieldKind.OpenFlags)
 
+abbrev eflags_form : List ℕ × List ℕ × FieldKind
+eflags_form = (codes "flags", codes "EFLAGS", FieldKind.CounterFlags)
+
 abbrev mflags_form : List ℕ × List ℕ × FieldKind
 mflags_form = (codes "flags", codes "MFLAGS", FieldKind.MsgFlags)
 
@@ -153,7 +160,7 @@ abbrev pub form : CallWord → List (List ℕ × List ℕ × FieldKind)
 form CallWord.Open = path_form ∷ mode_form ∷ oflags_form ∷ []
 form CallWord.Create = path_form ∷ mode_form ∷ oflags_form ∷ []
 form CallWord.MemFd = oflags_form ∷ []
-form CallWord.EventFd = count_form ∷ oflags_form ∷ []
+form CallWord.EventFd = count_form ∷ eflags_form ∷ []
 form CallWord.Pipe = oflags_form ∷ []
 form CallWord.Read = fd_form ∷ n_form ∷ []
 form CallWord.Write = fd_form ∷ bytes_form ∷ []
@@ -163,6 +170,8 @@ form CallWord.Dup2 = fd_form ∷ to_form ∷ []
 form CallWord.DupFrom = fd_form ∷ min_form ∷ []
 form CallWord.GetFlags = fd_form ∷ []
 form CallWord.Flags = fd_form ∷ oflags_form ∷ []
+form CallWord.Inq = fd_form ∷ []
+form CallWord.Outq = fd_form ∷ []
 form CallWord.Close = fd_form ∷ []
 form CallWord.Unlink = path_form ∷ []
 form CallWord.Socket = type_form ∷ oflags_form ∷ []
@@ -192,7 +201,7 @@ kinds word = map (λ f. f.2) (form word)
 -- ---- scripts
 
 -- a call that programs make which run as they are, and scripts of several orders don't have: those that make a file object, fcntl(2) but
--- for F_SETFL and F_SETFD, and setresuid(2) with setresgid(2)
+-- for F_SETFL and F_SETFD, ioctl(2), and setresuid(2) with setresgid(2)
 abbrev pub wants_serial : CallWord → Bool
 wants_serial CallWord.Create = true
 wants_serial CallWord.MemFd = true
@@ -200,6 +209,8 @@ wants_serial CallWord.EventFd = true
 wants_serial CallWord.Pipe = true
 wants_serial CallWord.DupFrom = true
 wants_serial CallWord.GetFlags = true
+wants_serial CallWord.Inq = true
+wants_serial CallWord.Outq = true
 wants_serial CallWord.SetIds = true
 wants_serial word = false
 
@@ -207,7 +218,7 @@ wants_serial word = false
 abbrev pub script_words : List CallWord
 script_words =
     CallWord.Open ∷ CallWord.Create ∷ CallWord.MemFd ∷ CallWord.EventFd ∷ CallWord.Pipe ∷ CallWord.Read ∷ CallWord.Write ∷ CallWord.Lseek
-    ∷ CallWord.Dup ∷ CallWord.Dup2 ∷ CallWord.DupFrom ∷ CallWord.GetFlags ∷ CallWord.Flags ∷ CallWord.Close
+    ∷ CallWord.Dup ∷ CallWord.Dup2 ∷ CallWord.DupFrom ∷ CallWord.GetFlags ∷ CallWord.Flags ∷ CallWord.Inq ∷ CallWord.Outq ∷ CallWord.Close
     ∷ CallWord.Unlink ∷ CallWord.Socket ∷ CallWord.Pair ∷ CallWord.Bind ∷ CallWord.Listen ∷ CallWord.Connect ∷ CallWord.Accept
     ∷ CallWord.Shut ∷ CallWord.GetOpt ∷ CallWord.SetOpt ∷ CallWord.SockName ∷ CallWord.PeerName ∷ CallWord.Send ∷ CallWord.Recv
     ∷ CallWord.Poll ∷ CallWord.SetIds ∷ CallWord.Fork ∷ CallWord.Exec ∷ CallWord.Exit ∷ []

@@ -1,5 +1,5 @@
 -- What the fields of a call are.
-use Rattle.std.specs.Prelude.{◌≡◌, ℕ, ℤ, List, [], ◌∷◌, Option}
+use Rattle.std.specs.Prelude.{◌≡◌, ℕ, ℤ, Bool, List, [], ◌∷◌, Option}
 use Rattle.ux_types.specs.declared.Fd.{Fd}
 use Rattle.ux_types.specs.declared.Name.{Name}
 use Rattle.ux_types.specs.declared.Bytes.{Bytes}
@@ -33,6 +33,7 @@ Value FieldKind.Whence = Whence
 Value FieldKind.SockType = SockType
 Value FieldKind.SockOpt = SockOpt
 Value FieldKind.OpenFlags = OpenFlags
+Value FieldKind.CounterFlags = Bool × OpenFlags
 Value FieldKind.MsgFlags = MsgFlags
 Value FieldKind.Control = Bytes
 
@@ -46,7 +47,7 @@ abbrev pub row_of : (r : Request) → Row (kinds (request_word r))
 row_of (Request.Open path mode flags) = (path, (mode, (flags, tt)))
 row_of (Request.Create path mode flags) = (path, (mode, (flags, tt)))
 row_of (Request.MemFd flags) = (flags, tt)
-row_of (Request.EventFd value flags) = (value, (flags, tt))
+row_of (Request.EventFd value semaphore flags) = (value, ((semaphore, flags), tt))
 row_of (Request.Pipe flags) = (flags, tt)
 row_of (Request.Read fd n) = (fd, (n, tt))
 row_of (Request.Write fd bytes) = (fd, (bytes, tt))
@@ -56,6 +57,8 @@ row_of (Request.Dup2 fd to) = (fd, (to, tt))
 row_of (Request.DupFrom fd minimum) = (fd, (minimum, tt))
 row_of (Request.GetFlags fd) = (fd, tt)
 row_of (Request.SetFlags fd flags) = (fd, (flags, tt))
+row_of (Request.InQueue fd) = (fd, tt)
+row_of (Request.OutQueue fd) = (fd, tt)
 row_of (Request.Close fd) = (fd, tt)
 row_of (Request.Unlink path) = (path, tt)
 row_of (Request.Socket kind flags) = (kind, (flags, tt))
@@ -83,7 +86,7 @@ abbrev pub request_of : (word : CallWord) → Row (kinds word) → Request
 request_of CallWord.Open x = Request.Open x.0 x.1.0 x.1.1.0
 request_of CallWord.Create x = Request.Create x.0 x.1.0 x.1.1.0
 request_of CallWord.MemFd x = Request.MemFd x.0
-request_of CallWord.EventFd x = Request.EventFd x.0 x.1.0
+request_of CallWord.EventFd x = Request.EventFd x.0 x.1.0.0 x.1.0.1
 request_of CallWord.Pipe x = Request.Pipe x.0
 request_of CallWord.Read x = Request.Read x.0 x.1.0
 request_of CallWord.Write x = Request.Write x.0 x.1.0
@@ -93,6 +96,8 @@ request_of CallWord.Dup2 x = Request.Dup2 x.0 x.1.0
 request_of CallWord.DupFrom x = Request.DupFrom x.0 x.1.0
 request_of CallWord.GetFlags x = Request.GetFlags x.0
 request_of CallWord.Flags x = Request.SetFlags x.0 x.1.0
+request_of CallWord.Inq x = Request.InQueue x.0
+request_of CallWord.Outq x = Request.OutQueue x.0
 request_of CallWord.Close x = Request.Close x.0
 request_of CallWord.Unlink x = Request.Unlink x.0
 request_of CallWord.Socket x = Request.Socket x.0 x.1.0
@@ -133,6 +138,7 @@ pub data FieldValue : Type 0 where
   type_field : (it : SockType) → FieldValue
   option_field : (it : SockOpt) → FieldValue
   open_flags_field : (it : OpenFlags) → FieldValue
+  counter_flags_field : (it : Bool × OpenFlags) → FieldValue
   msg_flags_field : (it : MsgFlags) → FieldValue
   control_field : (it : Bytes) → FieldValue
 
@@ -153,6 +159,7 @@ valued FieldKind.Whence it = whence_field it
 valued FieldKind.SockType it = type_field it
 valued FieldKind.SockOpt it = option_field it
 valued FieldKind.OpenFlags it = open_flags_field it
+valued FieldKind.CounterFlags it = counter_flags_field it
 valued FieldKind.MsgFlags it = msg_flags_field it
 valued FieldKind.Control it = control_field it
 

@@ -21,6 +21,8 @@ pub enum CallWord {
     DupFrom,
     GetFlags,
     Flags,
+    Inq,
+    Outq,
     Close,
     Unlink,
     Socket,
@@ -59,6 +61,8 @@ pub const SCRIPT_WORDS: &[CallWord] = &[
     CallWord::DupFrom,
     CallWord::GetFlags,
     CallWord::Flags,
+    CallWord::Inq,
+    CallWord::Outq,
     CallWord::Close,
     CallWord::Unlink,
     CallWord::Socket,
@@ -100,6 +104,8 @@ impl CallWord {
             Request::DupFrom { .. } => CallWord::DupFrom,
             Request::GetFlags { .. } => CallWord::GetFlags,
             Request::SetFlags { .. } => CallWord::Flags,
+            Request::InQueue { .. } => CallWord::Inq,
+            Request::OutQueue { .. } => CallWord::Outq,
             Request::Close { .. } => CallWord::Close,
             Request::Unlink { .. } => CallWord::Unlink,
             Request::Socket { .. } => CallWord::Socket,
@@ -142,6 +148,8 @@ impl CallWord {
             CallWord::DupFrom => "dupfd",
             CallWord::GetFlags => "getfl",
             CallWord::Flags => "flags",
+            CallWord::Inq => "inq",
+            CallWord::Outq => "outq",
             CallWord::Close => "close",
             CallWord::Unlink => "unlink",
             CallWord::Socket => "socket",
@@ -178,6 +186,8 @@ impl CallWord {
                 | CallWord::Pipe
                 | CallWord::DupFrom
                 | CallWord::GetFlags
+                | CallWord::Inq
+                | CallWord::Outq
                 | CallWord::SetIds
         )
     }

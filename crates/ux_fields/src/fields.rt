@@ -24,6 +24,7 @@ pub enum Field<'a> {
     SockType(SockType),
     SockOpt(SockOpt),
     OpenFlags(OpenFlags),
+    CounterFlags(bool, OpenFlags),
     MsgFlags(MsgFlags),
     Control(&'a Bytes),
 }

@@ -40,6 +40,8 @@ pub enum FieldKind {
     SockOpt,
     /// The flags of an open file description and of a descriptor.
     OpenFlags,
+    /// The same of a counter, and whether it is a semaphore.
+    CounterFlags,
     /// The flags of a send or a receive.
     MsgFlags,
     /// The bytes of a control buffer.
@@ -180,6 +182,12 @@ const OFLAGS: FieldForm = FieldForm {
     kind: FieldKind::OpenFlags,
 };
 
+const EFLAGS: FieldForm = FieldForm {
+    name: "flags",
+    sign: "EFLAGS",
+    kind: FieldKind::CounterFlags,
+};
+
 const MFLAGS: FieldForm = FieldForm {
     name: "flags",
     sign: "MFLAGS",
@@ -199,11 +207,12 @@ pub fn form_of(word: CallWord) -> &'static [FieldForm]
     match word {
         CallWord::Open | CallWord::Create => &[PATH, MODE, OFLAGS],
         CallWord::MemFd | CallWord::Pipe => &[OFLAGS],
-        CallWord::EventFd => &[COUNT, OFLAGS],
+        CallWord::EventFd => &[COUNT, EFLAGS],
         CallWord::Read => &[FD, N],
         CallWord::Write => &[FD, BYTES],
         CallWord::Lseek => &[FD, OFFSET, WHENCE],
         CallWord::Dup | CallWord::GetFlags | CallWord::Close => &[FD],
+        CallWord::Inq | CallWord::Outq => &[FD],
         CallWord::Dup2 => &[FD, TO],
         CallWord::DupFrom => &[FD, MINIMUM],
         CallWord::Flags | CallWord::Accept => &[FD, OFLAGS],

@@ -32,8 +32,13 @@ pub fn fields_of(request: &Request) -> Fields<'_>
             )
         }
         Request::MemFd { flags } | Request::Pipe { flags } => fields!(Field::OpenFlags(*flags)),
-        Request::EventFd { value, flags } => {
-            fields!(Field::Number(*value), Field::OpenFlags(*flags))
+        Request::EventFd {
+            value,
+            semaphore,
+            flags,
+        } => {
+            let flags = Field::CounterFlags(*semaphore, *flags);
+            fields!(Field::Number(*value), flags)
         }
         Request::Read { fd, n } => fields!(Field::Fd(*fd), Field::Size(*n)),
         Request::Write { fd, bytes } => fields!(Field::Fd(*fd), Field::Bytes(bytes)),
@@ -46,6 +51,8 @@ pub fn fields_of(request: &Request) -> Fields<'_>
         }
         Request::Dup { fd }
         | Request::GetFlags { fd }
+        | Request::InQueue { fd }
+        | Request::OutQueue { fd }
         | Request::Close { fd }
         | Request::GetSockName { fd }
         | Request::GetPeerName { fd }

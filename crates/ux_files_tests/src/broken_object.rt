@@ -49,6 +49,10 @@ impl FileObject for BrokenFile {
         0
     }
 
+    fn bytes_ahead(&self, _at: u64) -> Option<usize> {
+        Some(0)
+    }
+
     fn ready(&self) -> (bool, bool) {
         (true, true)
     }

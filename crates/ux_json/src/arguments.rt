@@ -8,7 +8,7 @@ ghost use Rattle.ux_fields.specs.Seen.{seen};
 ghost use Rattle.ux_json.specs.Arguments.{descriptor_of, target_data, IsDataOf, HasAdded, HasArguments};
 
 use crate::control::control_value;
-use crate::words::{addr_text, flag_names, hex_text, path_text};
+use crate::words::{addr_text, counter_flag_names, flag_names, hex_text, path_text};
 use serde_json::{Map, Value, put};
 use std::alloc::{AllocError, Global};
 use ux_fields::{CallWord, Field, FieldForm, fields_of, form_of};
@@ -46,6 +46,7 @@ fn field_value(alloc: Global, field: Field<'_>) -> Result<Value, AllocError>
         Field::SockType(kind) => Value::try_from_str(alloc, type_word(kind)),
         Field::SockOpt(opt) => Value::try_from_str(alloc, option_word(opt)),
         Field::OpenFlags(flags) => flag_names(alloc, &flags),
+        Field::CounterFlags(semaphore, flags) => counter_flag_names(alloc, semaphore, &flags),
         Field::MsgFlags(flags) => flag_names(alloc, &flags),
         Field::Control(bytes) => control_value(alloc, bytes.as_slice()),
     }

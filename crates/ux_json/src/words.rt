@@ -7,7 +7,7 @@ use bitflags::Flags;
 use serde_json::Value;
 use std::alloc::{AllocError, Global};
 use ux_trace::{AddrText, NameText};
-use ux_types::{Addr, Name};
+use ux_types::{Addr, Name, OpenFlags};
 
 /// A path as a script has it: `p:` and the name.
 ///
@@ -44,11 +44,29 @@ pub(crate) fn hex_text(alloc: Global, bytes: &[u8]) -> Result<String, AllocError
     hex::encode(alloc, bytes)
 }
 
-/// The names of the flags that are set, as the manual pages have them without what all begin with.
-pub(crate) fn flag_names<F: Flags>(alloc: Global, flags: &F) -> Result<Value, AllocError> {
+/// The name of each flag that is set.
+fn names_of<F: Flags>(alloc: Global, flags: &F) -> Result<Vec<Value>, AllocError> {
     let mut names = Vec::new(alloc);
     for (name, _flag) in flags.iter_names() {
         names.push(Value::try_from_str(alloc, name)?)?;
+    }
+    Ok(names)
+}
+
+/// The names of the flags that are set, as the manual pages have them without what all begin with.
+pub(crate) fn flag_names<F: Flags>(alloc: Global, flags: &F) -> Result<Value, AllocError> {
+    Ok(Value::Array(names_of(alloc, flags)?))
+}
+
+/// The same of a counter, and behind them `SEMAPHORE` where it is one (eventfd(2)).
+pub(crate) fn counter_flag_names(
+    alloc: Global,
+    semaphore: bool,
+    flags: &OpenFlags,
+) -> Result<Value, AllocError> {
+    let mut names = names_of(alloc, flags)?;
+    if semaphore {
+        names.push(Value::try_from_str(alloc, "SEMAPHORE")?)?;
     }
     Ok(Value::Array(names))
 }

@@ -40,6 +40,11 @@ const CALLS: &[(&str, &str)] = &[
         r#"{"value": 4294967295, "flags": ["NONBLOCK"]}"#,
     ),
     ("eventfd 0 -", r#"{"value": 0, "flags": []}"#),
+    ("eventfd 0 s", r#"{"value": 0, "flags": ["SEMAPHORE"]}"#),
+    (
+        "eventfd 1 anxs",
+        r#"{"value": 1, "flags": ["APPEND", "NONBLOCK", "CLOEXEC", "SEMAPHORE"]}"#,
+    ),
     ("pipe -", r#"{"flags": []}"#),
     ("read 3 4096", r#"{"fd": 3, "n": 4096}"#),
     ("write 0 -", r#"{"fd": 0, "bytes": ""}"#),
@@ -59,6 +64,8 @@ const CALLS: &[(&str, &str)] = &[
     ("dup2 1 2", r#"{"fd": 1, "to": 2}"#),
     ("dupfd 1 10", r#"{"fd": 1, "minimum": 10}"#),
     ("getfl 1", r#"{"fd": 1}"#),
+    ("inq 1", r#"{"fd": 1}"#),
+    ("outq 2", r#"{"fd": 2}"#),
     (
         "flags 3 nx",
         r#"{"fd": 3, "flags": ["NONBLOCK", "CLOEXEC"]}"#,

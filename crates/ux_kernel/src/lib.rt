@@ -17,6 +17,7 @@ mod open_file;
 mod options;
 mod pairing;
 mod polling;
+mod queue_lengths;
 mod reading;
 mod step;
 mod unlinking;

@@ -33,15 +33,16 @@ impl<O: FileObject> Kernel<O> {
         &mut self,
         pid: Pid,
         value: u32,
+        semaphore: bool,
         flags: OpenFlags,
     ) -> Result<Reply, Refusal>
         requires { IsTrue (is_live self.old pid.0) }
-        ensures { Gives self.old (model.make_counter self.old pid.0 value flags) result self.new }
+        ensures { Gives self.old (model.make_counter self.old pid.0 value semaphore flags) result self.new }
     {
         if flags.contains(OpenFlags::APPEND) {
             return Err(Errno::EINVAL.into());
         }
-        let fd = self.state.make_counter(pid, value, flags)?;
+        let fd = self.state.make_counter(pid, value, semaphore, flags)?;
         Ok(Reply::Fd(fd))
     }
 

@@ -23,7 +23,7 @@ impl<O: FileObject> Kernel<O> {
     /// - `tag` is the number of the call. A message that it sends keeps it, and the answer reports that of the message of
     ///   which rights were received.
     /// - A refusal is the reply. One with ENOMEM leaves the kernel as it was.
-    /// - close(2), unlink(2), lseek(2), the flags of fcntl(2), listen(2), shutdown(2), getsockopt(2), poll(2), setsockopt(2)
+    /// - close(2), unlink(2), lseek(2), the flags of fcntl(2), the counts of ioctl(2), listen(2), shutdown(2), getsockopt(2), poll(2), setsockopt(2)
     ///   of a queue's limit, setresuid(2) with setresgid(2), execve(2), _exit(2) and the end of the layer never give ENOMEM.
     #[tactic(auto, unfolding(ux_model::specs::Step::Step))]
     pub fn step(
@@ -69,7 +69,11 @@ impl<O: FileObject> Kernel<O> {
             Request::Open { path, mode, flags } => self.open_file(pid, path, *mode, *flags),
             Request::Create { path, mode, flags } => self.create_file(pid, path, *mode, *flags),
             Request::MemFd { flags } => self.make_file(pid, *flags),
-            Request::EventFd { value, flags } => self.make_counter(pid, *value, *flags),
+            Request::EventFd {
+                value,
+                semaphore,
+                flags,
+            } => self.make_counter(pid, *value, *semaphore, *flags),
             Request::Pipe { flags } => self.make_pipe(pid, *flags),
             Request::Read { fd, n } => self.read(pid, *fd, *n),
             Request::Write { fd, bytes } => self.write(pid, tag, *fd, bytes),
@@ -79,6 +83,8 @@ impl<O: FileObject> Kernel<O> {
             Request::DupFrom { fd, minimum } => self.dup_from(pid, *fd, *minimum),
             Request::GetFlags { fd } => self.get_flags(pid, *fd),
             Request::SetFlags { fd, flags } => self.set_flags(pid, *fd, *flags),
+            Request::InQueue { fd } => self.in_queue(pid, *fd),
+            Request::OutQueue { fd } => self.out_queue(pid, *fd),
             Request::Close { fd } => self.close(pid, *fd),
             Request::Unlink { path } => self.unlink(path),
             Request::Socket { kind, flags } => self.make_socket(pid, *kind, *flags),

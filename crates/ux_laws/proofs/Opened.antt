@@ -295,7 +295,7 @@ no_file_before boot es k i d e x tag legal at way source leads = by_request e.re
     by_request (Request.Open path mode flags) way h = let same = at_first (next_description S) h in new (omega (arith, same))
     by_request (Request.Create path mode flags) way h = let same = at_first (next_description S) h in new (omega (arith, same))
     by_request (Request.MemFd flags) way h = let same = at_first (next_description S) h in new (omega (arith, same))
-    by_request (Request.EventFd value flags) way h = let same = at_first (next_description S) h in new (omega (arith, same))
+    by_request (Request.EventFd value semaphore flags) way h = let same = at_first (next_description S) h in new (omega (arith, same))
     by_request (Request.Pipe flags) way h =
         ⊎_elim {C = ⊥} (λ same. new (omega (arith, same)))
         (λ same. new (omega (arith, same))) (of_two (next_description S) (suc (next_description S)) h)
@@ -333,7 +333,7 @@ mode_there S p i j d mode r h e g = by_request r h g
         slice_get (made_modes r) j ≡ Some mode
     by_request (Request.Create path m flags) h g = of_one m i j h g
     by_request (Request.MemFd flags) h g = of_one Mode.Both i j h g
-    by_request (Request.EventFd value flags) h g = of_one Mode.Both i j h g
+    by_request (Request.EventFd value semaphore flags) h g = of_one Mode.Both i j h g
     by_request (Request.Pipe flags) h g = of_two i j h e g
     by_request r h g = absurd (cc h)
 

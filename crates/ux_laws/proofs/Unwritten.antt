@@ -169,8 +169,8 @@ read_tells S p fd n o bytes is = found Q S p fd _ (λ given h behind. absurd (cc
             sym (ap (λ (x : Result (List ℕ × Body) ObjectError). (read_answer S e.description D k view x).reply) is) ∙ reply in
             let same : take (min read_limit n) (drop D.offset held) ≡ given = cc told in
             subst (λ (l : List ℕ). IsRunOf l held) same (some_bytes (min read_limit n) D.offset held)
-    by_body k e D view g h t there (counter value) body_is = λ given reply behind.
-        let clash : counter value ≡ memory bytes = sym body_is ∙ the_file k e D view g h t there behind in
+    by_body k e D view g h t there (counter semaphore value) body_is = λ given reply behind.
+        let clash : counter semaphore value ≡ memory bytes = sym body_is ∙ the_file k e D view g h t there behind in
         absurd (cc clash)
     by_body k e D view g h t there (pipe waiting) body_is = λ given reply behind.
         let clash : pipe waiting ≡ memory bytes = sym body_is ∙ the_file k e D view g h t there behind in

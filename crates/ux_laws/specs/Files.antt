@@ -47,7 +47,7 @@ pub record IsOpening (boot : State) (entries : List Entry) (allows : Mode → Bo
 abbrev pub made_modes : Request → List Mode
 made_modes (Request.Create path mode flags) = mode ∷ []
 made_modes (Request.MemFd flags) = Mode.Both ∷ []
-made_modes (Request.EventFd value flags) = Mode.Both ∷ []
+made_modes (Request.EventFd value semaphore flags) = Mode.Both ∷ []
 made_modes (Request.Pipe flags) = Mode.Read ∷ Mode.Write ∷ []
 made_modes _ = []
 

@@ -11,6 +11,7 @@ mod objects;
 mod options;
 mod pairs;
 mod paths;
+mod queue_lengths;
 mod queue_limits;
 mod rights;
 mod users;
@@ -279,6 +280,8 @@ enum Told {
     Bytes(&'static [u8]),
     At(u64),
     Got(&'static [u8]),
+    /// A whole record of these bytes.
+    Record(&'static [u8]),
     /// These bytes of a datagram, with these flags, from this address.
     From(&'static [u8], u8, At),
     /// So many bytes `x`.
@@ -391,6 +394,7 @@ fn reply_of(alloc: Global, told: &Told) -> Result<Reply, AllocError> {
         Told::Bytes(bytes) => Reply::Bytes(Bytes::from_slice(alloc, bytes)?),
         Told::At(offset) => Reply::At(*offset),
         Told::Got(bytes) => got(alloc, bytes, 0, None)?,
+        Told::Record(bytes) => got(alloc, bytes, MsgFlags::EOR.0, None)?,
         Told::From(bytes, flags, at) => got(alloc, bytes, *flags, Some(addr_of(alloc, at)?))?,
         Told::GotMany(count) => got(alloc, &copies(alloc, *count)?, 0, None)?,
         Told::Taken(flags, numbers) => taken(alloc, *flags, numbers)?,

@@ -14,3 +14,4 @@ pub mod ObjectExamples
 mod NameExamples
 mod ForkingExamples
 mod UserExamples
+mod QueueLengthExamples

@@ -8,6 +8,8 @@ use Rattle.ux_model.specs.Step.{Step}
 -- getsockopt(2) isn't among them, since SO_ERROR clears what it reports
 abbrev pub asks : Request → Bool
 asks (Request.GetFlags fd) = true
+asks (Request.InQueue fd) = true
+asks (Request.OutQueue fd) = true
 asks (Request.GetSockName fd) = true
 asks (Request.GetPeerName fd) = true
 asks (Request.Poll fd) = true

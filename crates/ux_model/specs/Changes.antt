@@ -19,7 +19,7 @@ abbrev pub cloexec_of : Request → Bool
 cloexec_of (Request.Open path mode flags) = asks_cloexec flags
 cloexec_of (Request.Create path mode flags) = asks_cloexec flags
 cloexec_of (Request.MemFd flags) = asks_cloexec flags
-cloexec_of (Request.EventFd value flags) = asks_cloexec flags
+cloexec_of (Request.EventFd value semaphore flags) = asks_cloexec flags
 cloexec_of (Request.Pipe flags) = asks_cloexec flags
 cloexec_of (Request.Socket kind flags) = asks_cloexec flags
 cloexec_of (Request.SocketPair kind flags) = asks_cloexec flags
@@ -65,7 +65,7 @@ abbrev pub sources : State → ℕ → Request → List ℕ
 sources S p (Request.Open path mode flags) = next_description S ∷ []
 sources S p (Request.Create path mode flags) = next_description S ∷ []
 sources S p (Request.MemFd flags) = next_description S ∷ []
-sources S p (Request.EventFd value flags) = next_description S ∷ []
+sources S p (Request.EventFd value semaphore flags) = next_description S ∷ []
 sources S p (Request.Pipe flags) = next_description S ∷ suc (next_description S) ∷ []
 sources S p (Request.Socket kind flags) = next_description S ∷ []
 sources S p (Request.SocketPair kind flags) = next_description S ∷ suc (next_description S) ∷ []

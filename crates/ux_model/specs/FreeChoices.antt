@@ -13,6 +13,8 @@ abbrev pub takes_no_memory : Request → Bool
 takes_no_memory (Request.Lseek fd offset whence) = true
 takes_no_memory (Request.SetFlags fd flags) = true
 takes_no_memory (Request.GetFlags fd) = true
+takes_no_memory (Request.InQueue fd) = true
+takes_no_memory (Request.OutQueue fd) = true
 takes_no_memory (Request.Close fd) = true
 takes_no_memory (Request.Unlink path) = true
 takes_no_memory (Request.Listen fd backlog) = true

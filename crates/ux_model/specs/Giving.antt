@@ -65,7 +65,7 @@ abbrev pub how_of : Request → Option ℕ → Option How
 how_of (Request.Open path mode flags) delivered = Some How.Made
 how_of (Request.Create path mode flags) delivered = Some How.Made
 how_of (Request.MemFd flags) delivered = Some How.Made
-how_of (Request.EventFd value flags) delivered = Some How.Made
+how_of (Request.EventFd value semaphore flags) delivered = Some How.Made
 how_of (Request.Pipe flags) delivered = Some How.Made
 how_of (Request.Socket kind flags) delivered = Some How.Made
 how_of (Request.SocketPair kind flags) delivered = Some How.Made

@@ -167,7 +167,7 @@ BootObjectsClosedOnce = (boot : State) (entries : List Entry) (o : ℕ) → IsLe
 abbrev pub makes_object : Request → Reply → Bool
 makes_object (Request.Create path mode flags) (Reply.Fd fd) = true
 makes_object (Request.MemFd flags) (Reply.Fd fd) = true
-makes_object (Request.EventFd value flags) (Reply.Fd fd) = true
+makes_object (Request.EventFd value semaphore flags) (Reply.Fd fd) = true
 makes_object (Request.Pipe flags) (Reply.Fds first second) = true
 makes_object _ _ = false
 

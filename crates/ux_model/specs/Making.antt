@@ -45,9 +45,9 @@ open_made S T p mode flags = elim (lowest_free (table_of S p)) [
 unfoldable pub make_object : State → ℕ → Bool → Body → OpenFlags → Outcome
 make_object S p unknown body flags = if unknown then refuse S Errno.EINVAL else open_made S (with_made S body) p Mode.Both flags
 
--- eventfd(2): EFD_CLOEXEC and EFD_NONBLOCK
-abbrev pub make_counter : State → ℕ → ℕ → OpenFlags → Outcome
-make_counter S p value flags = make_object S p (asks_append flags) (counter value) flags
+-- eventfd(2): EFD_CLOEXEC, EFD_NONBLOCK and EFD_SEMAPHORE
+abbrev pub make_counter : State → ℕ → ℕ → Bool → OpenFlags → Outcome
+make_counter S p value semaphore flags = make_object S p (asks_append flags) (counter semaphore value) flags
 
 -- memfd_create(2): MFD_CLOEXEC
 abbrev pub make_file : State → ℕ → OpenFlags → Outcome

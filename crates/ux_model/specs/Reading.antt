@@ -14,7 +14,7 @@ use Rattle.ux_model.specs.FileObjects.{is_open_for, or_failing, holds_bytes, on_
 -- a counter gives all its bytes or none
 abbrev pub is_short_read : Body → ℕ → Bool
 is_short_read (memory bytes) n = false
-is_short_read (counter value) n = nat_lt n counter_len
+is_short_read (counter semaphore value) n = nat_lt n counter_len
 is_short_read (pipe bytes) n = false
 
 -- what a read leaves: the body, and of a memory file the offset behind what was read

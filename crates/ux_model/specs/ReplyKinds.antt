@@ -78,7 +78,7 @@ abbrev pub kind_of : Request → Reply → Bool
 kind_of (Request.Open path mode flags) = is_fd
 kind_of (Request.Create path mode flags) = is_fd
 kind_of (Request.MemFd flags) = is_fd
-kind_of (Request.EventFd value flags) = is_fd
+kind_of (Request.EventFd value semaphore flags) = is_fd
 kind_of (Request.Pipe flags) = is_fds
 kind_of (Request.Read fd n) = is_bytes
 kind_of (Request.Write fd bytes) = is_count
@@ -88,6 +88,8 @@ kind_of (Request.Dup2 fd to) = is_fd
 kind_of (Request.DupFrom fd minimum) = is_fd
 kind_of (Request.GetFlags fd) = is_flags
 kind_of (Request.SetFlags fd flags) = is_done
+kind_of (Request.InQueue fd) = is_count
+kind_of (Request.OutQueue fd) = is_count
 kind_of (Request.Close fd) = is_done
 kind_of (Request.Unlink path) = is_done
 kind_of (Request.Socket kind flags) = is_fd

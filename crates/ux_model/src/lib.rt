@@ -227,7 +227,7 @@ pub fn what_a_step_hands_out()
     ensures { HandsOutWhatWasHeld }
 {}
 
-/// In no state do close, unlink, lseek, shutdown, listen, poll, getsockopt, fcntl, setsockopt of a queue's
+/// In no state do close, unlink, lseek, ioctl, shutdown, listen, poll, getsockopt, fcntl, setsockopt of a queue's
 /// limit, execve, and the ends of a process and of the layer, answer ENOMEM.
 #[tactic(auto, using(crate::proofs::Invariants::FreeChoices::never_lacks_memory))]
 pub fn some_calls_never_lack_memory()

@@ -5,5 +5,5 @@ use Rattle.ux_object.specs.declared.ObjKind.TheVariants.{Memory, Counter, Pipe}
 
 abbrev pub kind_of : Body → ObjKind
 kind_of (memory bytes) = Memory
-kind_of (counter value) = Counter
+kind_of (counter semaphore value) = Counter
 kind_of (pipe bytes) = Pipe

@@ -21,6 +21,10 @@ impl FileObject for Box<dyn FileObject + Send> {
         (**self).size()
     }
 
+    fn bytes_ahead(&self, at: u64) -> Option<usize> {
+        (**self).bytes_ahead(at)
+    }
+
     fn ready(&self) -> (bool, bool) {
         (**self).ready()
     }

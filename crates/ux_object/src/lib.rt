@@ -4,7 +4,7 @@
 #![tactic(auto)]
 
 ghost use Rattle.std.specs.Prelude.{◌≡◌, true, IsTrue, length};
-ghost use Rattle.ux_model.specs.Object.{View, closed, size_of_body, ready, lacks_room};
+ghost use Rattle.ux_model.specs.Object.{View, closed, size_of_body, bytes_ahead, ready, lacks_room};
 ghost use Rattle.ux_object.specs.Kind.{kind_of};
 ghost use Rattle.ux_object.specs.declared.ObjError.{ObjError};
 ghost use Rattle.ux_object.specs.Calls.{Reads, Writes};
@@ -19,7 +19,7 @@ use thiserror::Error;
 pub enum ObjKind {
     /// Bytes at fixed places.
     Memory,
-    /// A number that a write adds to and a read takes away (eventfd(2)).
+    /// A number that a write adds to and a read takes away, all of it or 1 (eventfd(2)).
     Counter,
     /// Bytes that wait to be read, the oldest first (pipe(7)).
     Pipe,
@@ -63,6 +63,7 @@ pub trait FileObject: Drop {
 
     /// Reads up to `buf.len()` bytes into the front of `buf`, and answers how many: of a memory file
     /// those from the place `at` on, of a counter its eight, the lowest first, and of a pipe the oldest.
+    /// Of a semaphore the eight are those of the number 1, and 1 is what a read takes (EFD_SEMAPHORE).
     /// What the rest of `buf` contains afterwards is left open.
     ///
     /// # Errors
@@ -91,6 +92,11 @@ pub trait FileObject: Drop {
     /// The length of a memory file in bytes, and 0 for every other object.
     fn size(&self) -> u64
         ensures { result ≡ size_of_body (view self.now).body };
+
+    /// How many bytes a read finds at this place: of a memory file those up to its end, of a pipe all that wait. Of a
+    /// counter none are counted.
+    fn bytes_ahead(&self, at: u64) -> Option<usize>
+        ensures { result ≡ bytes_ahead (view self.now).body at };
 
     /// Whether it is ready to be read, and to be written (poll(2)).
     fn ready(&self) -> (bool, bool)

@@ -1,5 +1,5 @@
 -- What contracts see of an object that fails once.
-use Rattle.std.specs.Prelude.{ℕ, List, []}
+use Rattle.std.specs.Prelude.{ℕ, false, List, []}
 use Rattle.ux_model.specs.Object.{Body, memory, counter, pipe, View}
 use Rattle.ux_object.specs.declared.ObjKind.{ObjKind}
 use Rattle.ux_objects.specs.Faultless.{memory_view, counter_view, pipe_view}
@@ -14,7 +14,7 @@ plain_view (Pipe p) = pipe_view p
 -- what an object of this kind starts with
 abbrev pub first_body : ObjKind → List ℕ → Body
 first_body ObjKind.Memory bytes = memory bytes
-first_body ObjKind.Counter bytes = counter 0
+first_body ObjKind.Counter bytes = counter false 0
 first_body ObjKind.Pipe bytes = pipe []
 
 -- how many reads and writes there are up to the one that fails, that one counted, and what is seen of the object as of any other

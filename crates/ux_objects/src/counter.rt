@@ -1,7 +1,7 @@
-//! A counter, which a write adds to and a read takes whole.
-ghost use Rattle.std.specs.Prelude.{ℕ, true, false, ◌≡◌, ◌≢◌, ◌+◌, ◌≤◌, IfSome, IfNone, length};
+//! A counter, which a write adds to and a read takes whole, or 1 of it.
+ghost use Rattle.std.specs.Prelude.{ℕ, Bool, true, false, ◌≡◌, ◌≢◌, ◌+◌, ◌≤◌, IfSome, IfNone, length};
 ghost use Rattle.ux_model.specs.Limits.{counter_limit};
-ghost use Rattle.ux_model.specs.Object.{counter, lacks_room};
+ghost use Rattle.ux_model.specs.Object.{lacks_room};
 ghost use Rattle.ux_object.specs.Calls.{Reads, Writes};
 ghost use Rattle.ux_objects.specs.Faultless.{Faultless, opened_with, counter_view};
 ghost use Rattle.ux_objects.specs.Given.{given, can_add};
@@ -12,17 +12,19 @@ use ux_object::{FileObject, ObjError, ObjKind};
 /// The greatest value of a counter (eventfd(2)).
 const GREATEST: u64 = u64::MAX - 1;
 
-/// A number that a write adds to and a read takes away (eventfd(2)).
+/// A number that a write adds to and a read takes away (eventfd(2)). Contracts see whether it is a semaphore, and the number.
 #[derive(Drop)]
 pub struct Counter {
     value: u64,
+    /// A read takes 1, and not all (EFD_SEMAPHORE).
+    semaphore: bool,
     opened: bool,
 }
 
 impl Model for Counter {
-    ghost Value = { Faultless ℕ };
+    ghost Value = { Faultless (Bool × ℕ) };
 
-    ghost view = { λ c. record { opened = c.opened; content = c.value } };
+    ghost view = { λ c. record { opened = c.opened; content = (c.semaphore, c.value) } };
 
     ghost invariant = { λ c. c.value ≤ counter_limit };
 }
@@ -30,17 +32,31 @@ impl Model for Counter {
 impl Counter {
     /// An open counter at 0.
     pub fn new() -> Counter
-        ensures { result ≡ opened_with 0 }
+        ensures { result ≡ opened_with (false, 0) }
     {
         Counter::with_value(0)
     }
 
     /// An open counter at this value.
     pub fn with_value(value: u32) -> Counter
-        ensures { result ≡ opened_with value }
+        ensures { result ≡ opened_with (false, value) }
+    {
+        Counter::opened(value, false)
+    }
+
+    /// An open semaphore at this value: a counter of which a read takes 1.
+    pub fn semaphore(value: u32) -> Counter
+        ensures { result ≡ opened_with (true, value) }
+    {
+        Counter::opened(value, true)
+    }
+
+    fn opened(value: u32, semaphore: bool) -> Counter
+        ensures { result ≡ opened_with (semaphore, value) }
     {
         Counter {
             value: value as u64,
+            semaphore,
             opened: true,
         }
     }
@@ -63,8 +79,9 @@ impl FileObject for Counter {
         if self.value == 0 {
             return Err(ObjError::WouldBlock);
         }
-        buf[..8].copy_from_slice(&self.value.to_le_bytes());
-        self.value = 0;
+        let taken = if self.semaphore { 1 } else { self.value };
+        buf[..8].copy_from_slice(&taken.to_le_bytes());
+        self.value -= taken;
         Ok(8)
     }
 
@@ -86,12 +103,16 @@ impl FileObject for Counter {
         0
     }
 
+    fn bytes_ahead(&self, _at: u64) -> Option<usize> {
+        None
+    }
+
     fn ready(&self) -> (bool, bool) {
         (self.value > 0, self.value < GREATEST)
     }
 
     fn lacks_room(&self, bytes: &[u8]) -> bool
-        ensures { result ≡ lacks_room (counter self.now.content) bytes.now }
+        ensures { result ≡ lacks_room (counter_view self.now).body bytes.now }
     {
         match addend_of(bytes) {
             Some(addend) => addend > GREATEST - self.value,

@@ -88,6 +88,10 @@ impl FileObject for FailAt {
         self.plain.size()
     }
 
+    fn bytes_ahead(&self, at: u64) -> Option<usize> {
+        self.plain.bytes_ahead(at)
+    }
+
     fn ready(&self) -> (bool, bool) {
         self.plain.ready()
     }

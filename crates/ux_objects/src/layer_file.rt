@@ -43,6 +43,13 @@ impl<O: FileObject> FileObject for LayerFile<O> {
         }
     }
 
+    fn bytes_ahead(&self, at: u64) -> Option<usize> {
+        match self {
+            LayerFile::Given(object) => object.bytes_ahead(at),
+            LayerFile::Made(object) => object.bytes_ahead(at),
+        }
+    }
+
     fn ready(&self) -> (bool, bool) {
         match self {
             LayerFile::Given(object) => object.ready(),

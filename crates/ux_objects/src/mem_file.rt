@@ -102,6 +102,10 @@ impl FileObject for MemFile {
         self.bytes.len() as u64
     }
 
+    fn bytes_ahead(&self, at: u64) -> Option<usize> {
+        Some((self.bytes.len() as u64).saturating_sub(at) as usize)
+    }
+
     fn ready(&self) -> (bool, bool) {
         (true, true)
     }

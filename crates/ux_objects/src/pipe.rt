@@ -82,6 +82,10 @@ impl FileObject for Pipe {
         0
     }
 
+    fn bytes_ahead(&self, _at: u64) -> Option<usize> {
+        Some(self.bytes.len())
+    }
+
     fn ready(&self) -> (bool, bool) {
         (!self.bytes.is_empty(), self.bytes.len() <= LIMIT - WHOLE)
     }

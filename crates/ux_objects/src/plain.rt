@@ -78,6 +78,14 @@ impl FileObject for Plain {
         }
     }
 
+    fn bytes_ahead(&self, at: u64) -> Option<usize> {
+        match self {
+            Plain::Memory(file) => file.bytes_ahead(at),
+            Plain::Counter(counter) => counter.bytes_ahead(at),
+            Plain::Pipe(pipe) => pipe.bytes_ahead(at),
+        }
+    }
+
     fn ready(&self) -> (bool, bool) {
         match self {
             Plain::Memory(file) => file.ready(),

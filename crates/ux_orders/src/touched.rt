@@ -125,7 +125,14 @@ impl Written {
 fn made_by(entry: &Entry) -> Option<(u64, u32)> {
     match (&entry.request, &entry.reply) {
         (Request::Create { .. } | Request::MemFd { .. }, Reply::Fd(_)) => Some((0, 0)),
-        (Request::EventFd { value, .. }, Reply::Fd(_)) => Some((1, *value)),
+        (
+            Request::EventFd {
+                value,
+                semaphore,
+                ..
+            },
+            Reply::Fd(_),
+        ) => Some((if *semaphore { 3 } else { 1 }, *value)),
         (Request::Pipe { .. }, Reply::Fds(..)) => Some((2, 0)),
         _ => None,
     }

@@ -248,9 +248,40 @@ const MADE: Family = Family {
         (2, &["exit"]),
         (
             3,
-            &["eventfd 7 -", "eventfd 7 -", "pipe -", "create p:made rw -"],
+            &["eventfd 7 -", "eventfd 7 s", "pipe -", "create p:made rw -"],
         ),
         (3, USE_MADE),
+        (3, &["exit"]),
+    ],
+};
+
+const ASK_AND_SEND: &[&str] = &[
+    "inq 1",
+    "inq 1",
+    "inq 0",
+    "outq 0",
+    "outq 0",
+    "send 0 - 78 - -",
+    "send 0 - 797a - -",
+    "recv 1 1 0 d",
+    "close 1",
+];
+
+/// A pair that two children ask how much waits there.
+const WAITING: Family = Family {
+    header: "serial\nproc 1 1 0 8\n",
+    slots: &[
+        (1, &["pair stream -", "pair seq -", "pair dgram -"]),
+        (1, &["fork"]),
+        (1, &["fork"]),
+        (1, &["exit", "send 0 - 78 - -", "inq 1"]),
+        (2, ASK_AND_SEND),
+        (2, ASK_AND_SEND),
+        (2, ASK_AND_SEND),
+        (2, &["exit"]),
+        (3, ASK_AND_SEND),
+        (3, ASK_AND_SEND),
+        (3, ASK_AND_SEND),
         (3, &["exit"]),
     ],
 };
@@ -366,6 +397,13 @@ fn holders_of_a_passed_file(rt: HostRuntime) -> Result<(), Fail> {
 #[test]
 fn users_of_the_same_pair(rt: HostRuntime) -> Result<(), Fail> {
     let seen = compare(rt.alloc(), &USERS)?;
+    assert!(rt; is_seen(&seen));
+    Ok(())
+}
+
+#[test]
+fn askers_of_what_waits(rt: HostRuntime) -> Result<(), Fail> {
+    let seen = compare(rt.alloc(), &WAITING)?;
     assert!(rt; is_seen(&seen));
     Ok(())
 }

@@ -1,7 +1,9 @@
 //! `RecordQueue`.
 ghost use Rattle.std.specs.Prelude.{◌≡◌, ◌↔◌, ◌==◌, ◌<◌, ◌≤◌, [], ◌∷◌, ◌++◌, length, drop, slice_get, option_map, option_copied, IsTrue, IsSome, IfOk, IfErr, IsErrAnd, OnOk, OnErr};
 ghost use Rattle.ux_model.specs.Limits.{record_limit};
+ghost use Rattle.ux_model.specs.Message.{queued_bytes};
 ghost use Rattle.ux_model.specs.Front.{OnRecordFront};
+ghost use Rattle.ux_model.specs.QueueLengths.{next_length};
 ghost use Rattle.ux_record.specs.Shown.{Shows};
 ghost use Rattle.ux_rights.specs.Drafts.{drafted};
 
@@ -25,12 +27,14 @@ pub struct UnsentRecord {
 /// the list of its messages.
 pub struct RecordQueue<A: Allocator + Copy = Global> {
     records: VecDeque<Record, A>,
+    /// How many bytes they have.
+    bytes: usize,
 }
 
 // Written out, so that it is proved here and not in each function that drops one.
 impl<A: Allocator + Copy> Drop for RecordQueue<A> {
     fn drop(self) {
-        let RecordQueue { records } = self;
+        let RecordQueue { records, bytes: _ } = self;
         drop(records);
     }
 }
@@ -38,13 +42,13 @@ impl<A: Allocator + Copy> Drop for RecordQueue<A> {
 impl<A: Allocator + Copy> Model for RecordQueue<A> {
     ghost use Rattle.std.specs.Prelude.{List};
     ghost use Rattle.ux_model.specs.Message.{Message};
-    ghost use Rattle.ux_record.specs.Records.{IsBounded};
+    ghost use Rattle.ux_record.specs.Records.{IsCounted};
 
     ghost Value = { List Message };
 
     ghost view = { λ q. q.records.items };
 
-    ghost invariant = { λ q. IsBounded q.records.items };
+    ghost invariant = { λ q. IsCounted q.records.items q.bytes };
 }
 
 impl<A: Allocator + Copy> RecordQueue<A> {
@@ -54,6 +58,7 @@ impl<A: Allocator + Copy> RecordQueue<A> {
     {
         RecordQueue {
             records: VecDeque::new(alloc),
+            bytes: 0,
         }
     }
 
@@ -63,6 +68,23 @@ impl<A: Allocator + Copy> RecordQueue<A> {
         ensures bounded { result ≤ record_limit }
     {
         self.records.len()
+    }
+
+    /// How many bytes wait, in all messages.
+    pub fn len_bytes(&self) -> usize
+        ensures { result ≡ queued_bytes self.now }
+    {
+        self.bytes
+    }
+
+    /// How many bytes the oldest message has; 0 where none waits.
+    pub fn first_len(&self) -> usize
+        ensures { result ≡ next_length self.now }
+    {
+        match self.records.front() {
+            Some(record) => record.len(),
+            None => 0,
+        }
     }
 
     /// The message at an index, the oldest at 0.
@@ -112,7 +134,8 @@ impl<A: Allocator + Copy> RecordQueue<A> {
             });
         }
         let error = SendError::NoMemory;
-        let Ok(bytes) = draft.bytes.clone() else {
+        let copied: Result<_, _> = draft.bytes.clone();
+        let (Some(counted), Ok(bytes)) = (self.bytes.checked_add(draft.bytes.len()), copied) else {
             return Err(UnsentRecord {
                 error,
                 rights,
@@ -128,6 +151,7 @@ impl<A: Allocator + Copy> RecordQueue<A> {
                 from,
             });
         }
+        self.bytes = counted;
         Ok(())
     }
 
@@ -151,6 +175,8 @@ impl<A: Allocator + Copy> RecordQueue<A> {
         ensures first { result ≡ option_map (λ m. (m.rights, m.uid)) (slice_get self.old 0) }
         ensures rest { self.new ≡ drop 1 self.old }
     {
-        Some(self.records.pop_front()?.into_rights())
+        let record = self.records.pop_front()?;
+        self.bytes -= record.len();
+        Some(record.into_rights())
     }
 }

@@ -1,5 +1,5 @@
 //! What a number leads to.
-ghost use Rattle.std.specs.Prelude.{◌≡◌, ◌≤◌, Some, None, Ok, Err, IsTrue, IsSomeAnd, MatchOption, MatchResult, length};
+ghost use Rattle.std.specs.Prelude.{◌≡◌, ◌≤◌, Some, None, Ok, Err, IfOk, IsTrue, IsSomeAnd, MatchOption, MatchResult, length};
 ghost use Rattle.ux_model.specs.Limits.{made_limit};
 ghost use Rattle.ux_model.specs.Flags.{can_read, can_write};
 ghost use Rattle.ux_model.specs.Places.{place};
@@ -10,9 +10,11 @@ ghost use Rattle.ux_model.specs.Flight.{in_flight};
 ghost use Rattle.ux_model.specs.Outcome.{find_description, find_socket};
 ghost use Rattle.ux_model.specs.FileObjects.{is_open_for};
 ghost use Rattle.ux_model.specs.History.{has_live};
+ghost use Rattle.ux_slots.specs.Held.{Lists};
 
 use crate::process::Process;
 use crate::state::State;
+use std::alloc::{AllocError, Global};
 use ux_description::{Description, Socket};
 use ux_fdtable::{Descriptor, Table};
 use ux_object::FileObject;
@@ -118,6 +120,17 @@ impl<O: FileObject> State<O> {
         ensures { result ≡ length self.now.descriptions }
     {
         self.descriptions.next_id().number()
+    }
+
+    /// The descriptions that are there, by rising number. It visits these alone.
+    ///
+    /// # Errors
+    ///
+    /// Out of memory.
+    pub fn description_ids(&self, alloc: Global) -> Result<Vec<DescriptionId>, AllocError>
+        ensures { IfOk result (λ ids. Lists self.now.descriptions ids.items) }
+    {
+        self.descriptions.ids(alloc)
     }
 
     /// How many references a description has: from descriptors, from rights in unread messages, and from

@@ -62,22 +62,33 @@ impl From<MakeError> for Refusal {
 }
 
 impl<O: FileObject> State<O> {
-    /// Makes a counter with this value, and opens the lowest free number of a process for it (eventfd(2)).
+    /// Makes a counter with this value, or a semaphore, and opens the lowest free number of a process for it (eventfd(2)).
     ///
     /// # Errors
     ///
     /// `Full` where no number is free, else `TooMany` where the layer has all file objects that it may have,
     /// else `NoMemory`. The state is then as before.
-    pub fn make_counter(&mut self, pid: Pid, value: u32, flags: OpenFlags) -> Result<Fd, MakeError>
+    pub fn make_counter(
+        &mut self,
+        pid: Pid,
+        value: u32,
+        semaphore: bool,
+        flags: OpenFlags,
+    ) -> Result<Fd, MakeError>
         requires { IsTrue (is_live self.old pid.0) }
         ensures lowest { IfOk result (λ fd. lowest_free (table_of self.old pid.0) ≡ Some fd.0) }
-        ensures opened { IfOk result (λ fd. self.new ≡ with_table (with_new (with_made self.old (counter value)) (file_description (next_object self.old) Mode.Both flags)) pid.0
+        ensures opened { IfOk result (λ fd. self.new ≡ with_table (with_new (with_made self.old (counter semaphore value)) (file_description (next_object self.old) Mode.Both flags)) pid.0
             (filled (table_of self.old pid.0) fd.0 (descriptor flags (next_description self.old)))) }
         ensures full { (result ≡ Err MakeError.Full) ↔ (lowest_free (table_of self.old pid.0) ≡ None) }
         ensures too_many { (result ≡ Err MakeError.TooMany) ↔ (IsSome (lowest_free (table_of self.old pid.0)) × IsTrue (object_table_full self.old)) }
         ensures err { OnErr result (self.new ≡ self.old) }
     {
-        self.open_made(pid, flags, Plain::Counter(Counter::with_value(value)))
+        let made = if semaphore {
+            Counter::semaphore(value)
+        } else {
+            Counter::with_value(value)
+        };
+        self.open_made(pid, flags, Plain::Counter(made))
     }
 
     /// Makes an empty file without a path, and opens the lowest free number of a process for it

@@ -15,7 +15,7 @@ use Rattle.ux_syntax.specs.Reading.{◌>>=◌, number_at, fd_at, value_at, value
 use Rattle.ux_syntax.proofs.Rows.{IsSolid, IsBadOrOk, IsKind, IsRow, solid_from, bind_bad, bind_ok, ok_is, done, ends_row}
 use Rattle.ux_syntax.proofs.Rows.{row_then, number_kind}
 use Rattle.ux_syntax.proofs.Bytes.{hex_kind}
-use Rattle.ux_syntax.proofs.Flags.{open_flags_kind, msg_flags_kind}
+use Rattle.ux_syntax.proofs.Flags.{open_flags_kind, counter_flags_kind, msg_flags_kind}
 use Rattle.ux_syntax.proofs.Choices.{chosen_takes, chosen_bad, mode_kind, type_kind, option_kind, whence_kind}
 use Rattle.ux_syntax.proofs.Offsets.{offset_kind, backlog_kind}
 use Rattle.ux_syntax.proofs.Names.{path_kind, addr_kind}
@@ -57,6 +57,7 @@ field_facts FieldKind.Whence = whence_kind
 field_facts FieldKind.SockType = type_kind
 field_facts FieldKind.SockOpt = option_kind
 field_facts FieldKind.OpenFlags = open_flags_kind
+field_facts FieldKind.CounterFlags = counter_flags_kind
 field_facts FieldKind.MsgFlags = msg_flags_kind
 field_facts FieldKind.Control = control_kind
 

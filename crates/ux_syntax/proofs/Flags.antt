@@ -9,8 +9,8 @@ use Rattle.ux_model.specs.Types.{OpenFlags, MsgFlags}
 use Rattle.ux_model.specs.Flags.{has_bits}
 use Rattle.ux_syntax.specs.declared.fault.Fault.TheVariants.{BadLine}
 use Rattle.ux_trace.specs.Trace.{dash}
-use Rattle.ux_syntax.specs.Spelling.{letter, or_dash, open_flags, msg_flags, FitsOpenFlags, FitsMsgFlags}
-use Rattle.ux_syntax.specs.Reading.{letter_at, open_flags_at, msg_flags_at}
+use Rattle.ux_syntax.specs.Spelling.{letter, or_dash, open_flags, counter_flags, msg_flags, FitsOpenFlags, FitsMsgFlags}
+use Rattle.ux_syntax.specs.Reading.{letter_at, open_flags_at, counter_flags_at, msg_flags_at}
 use Rattle.ux_syntax.proofs.Rows.{IsSolid, IsBadOrOk, IsKind, done, ok_is, guard_bad, either_bad}
 use Rattle.ux_syntax.proofs.Bytes.{dash_solid}
 
@@ -75,28 +75,51 @@ from_at P n (suc count) (suc i) h lt = let same : n + 1 + i ≡ n + suc i = omeg
 below_at : (P : ℕ → Type 0) (count i : ℕ) → From P 0 count → i < count → P i
 below_at P count i h lt = let same : 0 + i ≡ i = omega arith in subst P same (from_at P 0 count i h lt)
 
--- ---- the letters anx
-
-abbrev open_letters : Bool → Bool → Bool → List ℕ
-open_letters a n x = letter a 97 ++ (letter n 110 ++ letter x 120)
+-- ---- the letters anx, and s behind them of a semaphore
 
 abbrev open_made : Bool → Bool → Bool → OpenFlags
 open_made a n x = record { 0 = bit_or (bit_or (cond a 1 0) (cond n 2 0)) (cond x 4 0) }
 
--- the text of the flags, that they fit, and their letters before what follows
-abbrev IsOpenText : Bool → Bool → Bool → Type 0
-IsOpenText a n x = (open_flags (open_made a n x) ≡ or_dash (open_letters a n x)) × FitsOpenFlags (open_made a n x)
-    × ((rest : List ℕ) → letter a 97 ++ (letter n 110 ++ (letter x 120 ++ rest)) ≡ open_letters a n x ++ rest)
+abbrev counter_letters : Bool → Bool → Bool → Bool → List ℕ
+counter_letters a n x s = letter a 97 ++ (letter n 110 ++ (letter x 120 ++ letter s 115))
 
-open_text : (a n x : Bool) → IsOpenText a n x
-open_text true true true = (refl, lit< tt, λ rest. refl)
-open_text true true false = (refl, lit< tt, λ rest. refl)
-open_text true false true = (refl, lit< tt, λ rest. refl)
-open_text true false false = (refl, lit< tt, λ rest. refl)
-open_text false true true = (refl, lit< tt, λ rest. refl)
-open_text false true false = (refl, lit< tt, λ rest. refl)
-open_text false false true = (refl, lit< tt, λ rest. refl)
-open_text false false false = (refl, lit< tt, λ rest. refl)
+-- the text of the flags, that they fit, and their letters before what follows
+abbrev IsCounterText : Bool → Bool → Bool → Bool → Type 0
+IsCounterText a n x s = (counter_flags (s, open_made a n x) ≡ or_dash (counter_letters a n x s)) × FitsOpenFlags (open_made a n x)
+    × ((rest : List ℕ) → letter a 97 ++ (letter n 110 ++ (letter x 120 ++ (letter s 115 ++ rest))) ≡ counter_letters a n x s ++ rest)
+
+counter_text : (a n x s : Bool) → IsCounterText a n x s
+counter_text true true true true = (refl, lit< tt, λ rest. refl)
+counter_text true true true false = (refl, lit< tt, λ rest. refl)
+counter_text true true false true = (refl, lit< tt, λ rest. refl)
+counter_text true true false false = (refl, lit< tt, λ rest. refl)
+counter_text true false true true = (refl, lit< tt, λ rest. refl)
+counter_text true false true false = (refl, lit< tt, λ rest. refl)
+counter_text true false false true = (refl, lit< tt, λ rest. refl)
+counter_text true false false false = (refl, lit< tt, λ rest. refl)
+counter_text false true true true = (refl, lit< tt, λ rest. refl)
+counter_text false true true false = (refl, lit< tt, λ rest. refl)
+counter_text false true false true = (refl, lit< tt, λ rest. refl)
+counter_text false true false false = (refl, lit< tt, λ rest. refl)
+counter_text false false true true = (refl, lit< tt, λ rest. refl)
+counter_text false false true false = (refl, lit< tt, λ rest. refl)
+counter_text false false false true = (refl, lit< tt, λ rest. refl)
+counter_text false false false false = (refl, lit< tt, λ rest. refl)
+
+-- the letters of anx, and what follows them
+abbrev OpenParts : List ℕ → Type 0
+OpenParts w =
+    let a = letter_at 97 w in
+    let n = letter_at 110 a.1 in
+    let x = letter_at 120 n.1 in
+    w ≡ letter a.0 97 ++ (letter n.0 110 ++ (letter x.0 120 ++ x.1))
+
+open_parts : (w : List ℕ) → OpenParts w
+open_parts w =
+    let a = letter_at 97 w in
+    let n = letter_at 110 a.1 in
+    letter_takes 97 w ∙ ap (λ (r : List ℕ). letter a.0 97 ++ r)
+    (letter_takes 110 a.1 ∙ ap (λ (r : List ℕ). letter n.0 110 ++ r) (letter_takes 120 n.1))
 
 open_takes : (w : List ℕ) (g : OpenFlags) → open_flags_at w ≡ Ok g → (w ≡ open_flags g) × FitsOpenFlags g
 unfolding open_flags_at
@@ -106,13 +129,10 @@ open_takes (c ∷ cs) g e =
     let a = letter_at 97 w in
     let n = letter_at 110 a.1 in
     let x = letter_at 120 n.1 in
-    let parts : w ≡ letter a.0 97 ++ (letter n.0 110 ++ (letter x.0 120 ++ x.1)) =
-    letter_takes 97 w ∙ ap (λ (r : List ℕ). letter a.0 97 ++ r)
-    (letter_takes 110 a.1 ∙ ap (λ (r : List ℕ). letter n.0 110 ++ r) (letter_takes 120 n.1)) in
-    let text = open_text a.0 n.0 x.0 in
-    flags_chosen open_flags FitsOpenFlags (record { 0 = 0 }) (open_made a.0 n.0 x.0) g w (open_letters a.0 n.0 x.0) x.1 (bytes_eq w dash)
-    (eqb (length x.1) 0) (omega arith) (bytes_eq-Decides w dash) (eqb-true (length x.1) 0) refl (lit< tt) (parts ∙ text.2 x.1) text.0 text.1
-    e
+    let text = counter_text a.0 n.0 x.0 false in
+    flags_chosen open_flags FitsOpenFlags (record { 0 = 0 }) (open_made a.0 n.0 x.0) g w (counter_letters a.0 n.0 x.0 false) x.1
+    (bytes_eq w dash) (eqb (length x.1) 0) (omega arith) (bytes_eq-Decides w dash) (eqb-true (length x.1) 0) refl (lit< tt)
+    (open_parts w ∙ text.2 x.1) text.0 text.1 e
 
 open_bad : (w : List ℕ) → IsBadOrOk (open_flags_at w)
 unfolding open_flags_at
@@ -126,16 +146,62 @@ each_open : From OpenAgain 0 8
 unfolding open_flags_at
 each_open = (refl, (refl, (refl, (refl, (refl, (refl, (refl, (refl, tt))))))))
 
-open_letters_solid : (a n x : Bool) → IsSolid (open_letters a n x)
-open_letters_solid a n x = solid_append (letter a 97) (letter n 110 ++ letter x 120) (letter_solid a 97 (lit< tt))
-    (solid_append (letter n 110) (letter x 120) (letter_solid n 110 (lit< tt)) (letter_solid x 120 (lit< tt)))
+counter_letters_solid : (a n x s : Bool) → IsSolid (counter_letters a n x s)
+counter_letters_solid a n x s = solid_append (letter a 97) (letter n 110 ++ (letter x 120 ++ letter s 115)) (letter_solid a 97 (lit< tt))
+    (solid_append (letter n 110) (letter x 120 ++ letter s 115) (letter_solid n 110 (lit< tt))
+    (solid_append (letter x 120) (letter s 115) (letter_solid x 120 (lit< tt)) (letter_solid s 115 (lit< tt))))
 
-open_solid : (f : OpenFlags) → FitsOpenFlags f → IsSolid (open_flags f)
-open_solid f h = or_dash_solid (open_letters (has_bits f.0 1) (has_bits f.0 2) (has_bits f.0 4))
-    (open_letters_solid (has_bits f.0 1) (has_bits f.0 2) (has_bits f.0 4))
+counter_solid : (c : Bool × OpenFlags) → FitsOpenFlags c.1 → IsSolid (counter_flags c)
+counter_solid c h = or_dash_solid (counter_letters (has_bits c.1.0 1) (has_bits c.1.0 2) (has_bits c.1.0 4) c.0)
+    (counter_letters_solid (has_bits c.1.0 1) (has_bits c.1.0 2) (has_bits c.1.0 4) c.0)
 
 pub open_flags_kind : IsKind open_flags_at open_flags FitsOpenFlags
-open_flags_kind = record { takes = open_takes; bad = open_bad; again = λ f h. below_at OpenAgain 8 f.0 each_open h; solid = open_solid }
+open_flags_kind = record {
+  takes = open_takes;
+  bad = open_bad;
+  again = λ f h. below_at OpenAgain 8 f.0 each_open h;
+  solid = λ f h. counter_solid (false, f) h;
+}
+
+abbrev FitsCounterFlags : Bool × OpenFlags → Type 0
+FitsCounterFlags c = FitsOpenFlags c.1
+
+counter_takes : (w : List ℕ) (g : Bool × OpenFlags) → counter_flags_at w ≡ Ok g → (w ≡ counter_flags g) × FitsCounterFlags g
+unfolding counter_flags_at
+counter_takes [] g e = absurd cc
+counter_takes (c ∷ cs) g e =
+    let w = c ∷ cs in
+    let a = letter_at 97 w in
+    let n = letter_at 110 a.1 in
+    let x = letter_at 120 n.1 in
+    let s = letter_at 115 x.1 in
+    let parts : w ≡ letter a.0 97 ++ (letter n.0 110 ++ (letter x.0 120 ++ (letter s.0 115 ++ s.1))) =
+    open_parts w ∙ ap (λ (r : List ℕ). letter a.0 97 ++ (letter n.0 110 ++ (letter x.0 120 ++ r))) (letter_takes 115 x.1) in
+    let text = counter_text a.0 n.0 x.0 s.0 in
+    flags_chosen counter_flags FitsCounterFlags (false, record { 0 = 0 }) (s.0, open_made a.0 n.0 x.0) g w
+    (counter_letters a.0 n.0 x.0 s.0) s.1 (bytes_eq w dash) (eqb (length s.1) 0) (omega arith) (bytes_eq-Decides w dash)
+    (eqb-true (length s.1) 0) refl (lit< tt) (parts ∙ text.2 s.1) text.0 text.1 e
+
+counter_bad : (w : List ℕ) → IsBadOrOk (counter_flags_at w)
+unfolding counter_flags_at
+counter_bad [] = refl
+counter_bad (c ∷ cs) = either_bad (bytes_eq (c ∷ cs) dash) (Ok (false, record { 0 = 0 })) _ tt (guard_bad _ _)
+
+abbrev CounterAgain : Bool → ℕ → Type 0
+CounterAgain s n = counter_flags_at (counter_flags (s, record { 0 = n })) ≡ Ok (s, record { 0 = n })
+
+each_counter : (s : Bool) → From (CounterAgain s) 0 8
+unfolding counter_flags_at
+each_counter true = (refl, (refl, (refl, (refl, (refl, (refl, (refl, (refl, tt))))))))
+each_counter false = (refl, (refl, (refl, (refl, (refl, (refl, (refl, (refl, tt))))))))
+
+pub counter_flags_kind : IsKind counter_flags_at counter_flags FitsCounterFlags
+counter_flags_kind = record {
+  takes = counter_takes;
+  bad = counter_bad;
+  again = λ c h. below_at (CounterAgain c.0) 8 c.1.0 (each_counter c.0) h;
+  solid = counter_solid;
+}
 
 -- ---- the letters dptx
 

@@ -179,14 +179,29 @@ each_number_at (w ∷ ws) = do
 unfoldable pub numbers_at : List ℕ → Result (List ℕ) Fault
 numbers_at w = each_number_at (slice_split (λ b. b == 44) w)
 
+-- the flags whose letters of anx a word begins with, and what follows
+abbrev pub open_letters_at : List ℕ → OpenFlags × List ℕ
+open_letters_at w =
+    let a = flag_at 97 1 w in
+    let n = flag_at 110 2 a.1 in
+    let x = flag_at 120 4 n.1 in
+    (record { 0 = bit_or (bit_or a.0 n.0) x.0 }, x.1)
+
 unfoldable pub open_flags_at : List ℕ → Result OpenFlags Fault
 open_flags_at [] = Err BadLine
 open_flags_at (c ∷ cs) =
-    let a = flag_at 97 1 (c ∷ cs) in
-    let n = flag_at 110 2 a.1 in
-    let x = flag_at 120 4 n.1 in
+    let l = open_letters_at (c ∷ cs) in
     if bytes_eq (c ∷ cs) dash then Ok (record { 0 = 0 }) else
-    if length x.1 == 0 then Ok (record { 0 = bit_or (bit_or a.0 n.0) x.0 }) else Err BadLine
+    if length l.1 == 0 then Ok l.0 else Err BadLine
+
+-- the same, and s behind them of a semaphore
+unfoldable pub counter_flags_at : List ℕ → Result (Bool × OpenFlags) Fault
+counter_flags_at [] = Err BadLine
+counter_flags_at (c ∷ cs) =
+    let l = open_letters_at (c ∷ cs) in
+    let s = letter_at 115 l.1 in
+    if bytes_eq (c ∷ cs) dash then Ok (false, record { 0 = 0 }) else
+    if length s.1 == 0 then Ok (s.0, l.0) else Err BadLine
 
 unfoldable pub msg_flags_at : List ℕ → Result MsgFlags Fault
 msg_flags_at [] = Err BadLine
@@ -277,6 +292,7 @@ value_at FieldKind.Whence w = whence_at w
 value_at FieldKind.SockType w = type_at w
 value_at FieldKind.SockOpt w = option_at w
 value_at FieldKind.OpenFlags w = open_flags_at w
+value_at FieldKind.CounterFlags w = counter_flags_at w
 value_at FieldKind.MsgFlags w = msg_flags_at w
 value_at FieldKind.Control w = control_at w
 

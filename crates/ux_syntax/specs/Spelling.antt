@@ -21,7 +21,7 @@ use Rattle.ux_syntax.specs.declared.script.Header.{Header}
 use Rattle.ux_syntax.specs.declared.script.Act.{Act}
 use Rattle.ux_syntax.specs.Lines.{Line}
 use Rattle.ux_syntax.specs.declared.script.Script.{Script}
-pub use Rattle.ux_trace.specs.Echoes.{letter, or_dash, open_flags, msg_flags, type_text, option_text, mode_text, whence_text}
+pub use Rattle.ux_trace.specs.Echoes.{letter, or_dash, open_flags, counter_flags, msg_flags, type_text, option_text, mode_text, whence_text}
 use Rattle.ux_syntax.specs.Text.{plain_line}
 use Rattle.ux_trace.specs.Trace.{dash, hex, path_text, addr_text, addr_or_dash, raw_text, rights_text, cred_text}
 
@@ -146,6 +146,7 @@ spelling FieldKind.Whence whence = whence_text whence
 spelling FieldKind.SockType kind = type_text kind
 spelling FieldKind.SockOpt opt = option_text opt
 spelling FieldKind.OpenFlags flags = open_flags flags
+spelling FieldKind.CounterFlags flags = counter_flags flags
 spelling FieldKind.MsgFlags flags = msg_flags flags
 spelling FieldKind.Control word = control_text word
 
@@ -271,6 +272,7 @@ FitsField FieldKind.Bytes bytes = AreBytes bytes
 FitsField FieldKind.Addr addr = FitsAddr addr
 FitsField FieldKind.Target addr = FitsAddrOrDash addr
 FitsField FieldKind.OpenFlags flags = FitsOpenFlags flags
+FitsField FieldKind.CounterFlags flags = FitsOpenFlags flags.1
 FitsField FieldKind.MsgFlags flags = FitsMsgFlags flags
 FitsField FieldKind.Control word = FitsControl word
 FitsField kind value = Unit {0}

@@ -25,6 +25,18 @@ pub(crate) fn word_of(word: &[u8]) -> Result<CallWord, LineError>
     }
 }
 
+/// `eventfd VALUE EFLAGS`.
+fn event_fd_of(alloc: Global, words: &[&[u8]]) -> Result<Request, LineError>
+    ensures { IsAsRead (λ r. r) result (args_at CallWord.EventFd (map (λ w. w.now) words.now)) }
+{
+    let (value, ((semaphore, flags), ())) = row_of(alloc, words)?;
+    Ok(Request::EventFd {
+        value,
+        semaphore,
+        flags,
+    })
+}
+
 /// `send FD ADDR HEX CONTROL MFLAGS`.
 fn send_of(alloc: Global, words: &[&[u8]]) -> Result<Request, LineError>
     ensures { IsAsRead (λ r. r) result (args_at CallWord.Send (map (λ w. w.now) words.now)) }
@@ -65,7 +77,7 @@ pub(crate) fn request_of(
         CallWord::Open => call!(alloc, args, Open, path, mode, flags),
         CallWord::Create => call!(alloc, args, Create, path, mode, flags),
         CallWord::MemFd => call!(alloc, args, MemFd, flags),
-        CallWord::EventFd => call!(alloc, args, EventFd, value, flags),
+        CallWord::EventFd => event_fd_of(alloc, args),
         CallWord::Pipe => call!(alloc, args, Pipe, flags),
         CallWord::Read => call!(alloc, args, Read, fd, n),
         CallWord::Write => call!(alloc, args, Write, fd, bytes),
@@ -75,6 +87,8 @@ pub(crate) fn request_of(
         CallWord::DupFrom => call!(alloc, args, DupFrom, fd, minimum),
         CallWord::GetFlags => call!(alloc, args, GetFlags, fd),
         CallWord::Flags => call!(alloc, args, SetFlags, fd, flags),
+        CallWord::Inq => call!(alloc, args, InQueue, fd),
+        CallWord::Outq => call!(alloc, args, OutQueue, fd),
         CallWord::Close => call!(alloc, args, Close, fd),
         CallWord::Unlink => call!(alloc, args, Unlink, path),
         CallWord::Socket => call!(alloc, args, Socket, kind, flags),

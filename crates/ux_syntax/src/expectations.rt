@@ -32,9 +32,13 @@ fn is_call(act: &Act) -> bool
     }
 }
 
-/// Whether a line is a process's, and asks for a call.
+/// Whether a line is a process's, and asks for a call. It may be as long as behind a line `serial`.
+///
+/// # Errors
+///
+/// `AllocError` where memory runs out.
 #[tactic(auto, unfolding(crate::specs::Expectations::asks_call))]
-fn asks_call(alloc: Global, text: &[u8]) -> Result<bool, AllocError>
+pub fn asks_call(alloc: Global, text: &[u8]) -> Result<bool, AllocError>
     ensures { IfOk result (λ yes. yes ≡ asks_call text.now) }
 {
     match item_of(alloc, 0, SERIAL_LINE_LIMIT, text) {
@@ -90,6 +94,13 @@ fn marked(text: &[u8]) -> Option<&[u8]>
     }
 }
 
+/// Whether a line is a comment that may say what a call answers: `#`, `=`, and no further `=`.
+pub fn is_marked(text: &[u8]) -> bool
+    ensures { result ≡ is_some (marked text.now) }
+{
+    marked(text).is_some()
+}
+
 /// The comment line as it is usually written.
 fn usual_line(alloc: Global, reply: &[u8]) -> Result<Vec<u8>, AllocError>
     ensures { IfOk result (λ line. line.items ≡ usual_line reply.now) }
@@ -100,8 +111,12 @@ fn usual_line(alloc: Global, reply: &[u8]) -> Result<Vec<u8>, AllocError>
     Ok(line)
 }
 
-/// What a comment line expects, in plain words.
-fn expected_in(alloc: Global, text: &[u8]) -> Result<Option<Bytes>, AllocError>
+/// What a comment line expects, in plain words, if anything.
+///
+/// # Errors
+///
+/// `AllocError` where memory runs out.
+pub fn expected_in(alloc: Global, text: &[u8]) -> Result<Option<Bytes>, AllocError>
     ensures { IfOk result (λ reply. reply ≡ expected_in text.now) }
 {
     let Some(reply) = marked(text) else {

@@ -20,12 +20,12 @@ mod waiting;
 mod words;
 
 pub use control::items_are_spelled;
-pub use expectations::{Expectation, expectations_of};
+pub use expectations::{Expectation, asks_call, expectations_of, expected_in, is_marked};
 pub use fault::{Fault, ScriptFault};
 pub use forms::is_line;
 pub use input::read_script;
 pub use line_reader::LineReader;
-pub use plain::{echoes_are_read, plain_lines_stay};
-pub use reading::{one_script, parse_script};
+pub use plain::{echoes_are_read, plain_line, plain_lines_stay};
+pub use reading::{one_script, parse_script, split_lines};
 pub use script::{Act, Line, ObjectLine, SERIAL_LINE_LIMIT, Script};
 pub use waiting::Waiting;

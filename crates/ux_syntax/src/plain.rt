@@ -387,9 +387,13 @@ fn may_differ(fields: &[Field], text: &[u8]) -> bool
     fields.iter().any(|field| may_be_special(*field, text))
 }
 
-/// The plain line that a line stands for, where it isn't that line itself.
+/// The plain line that a line stands for, where it isn't that line itself: its text is in digits, and its `rights:N` a number.
+///
+/// # Errors
+///
+/// `AllocError` where memory runs out.
 #[tactic(auto, unfolding(crate::specs::Text::plain_line))]
-pub(crate) fn plain_line(alloc: Global, text: &[u8]) -> Result<Option<Vec<u8>>, AllocError>
+pub fn plain_line(alloc: Global, text: &[u8]) -> Result<Option<Vec<u8>>, AllocError>
     ensures { IfOk result (λ plain. line_or text.now (option_map (λ line. line.items) plain) ≡ plain_line text.now) }
 {
     let fields = fields_of(text);

@@ -71,7 +71,12 @@ fn split_words<'a>(alloc: Global, text: &'a [u8]) -> Result<Vec<&'a [u8]>, Alloc
     text.split(|b| *b == b' ').collect(alloc)
 }
 
-pub(crate) fn split_lines<'a>(alloc: Global, text: &'a [u8]) -> Result<Vec<&'a [u8]>, AllocError>
+/// The lines of a text, which end at line feeds; the last may have none.
+///
+/// # Errors
+///
+/// `AllocError` where memory runs out.
+pub fn split_lines<'a>(alloc: Global, text: &'a [u8]) -> Result<Vec<&'a [u8]>, AllocError>
     ensures { IfOk result (λ lines. map (λ l. l.now) lines.items ≡ lines_of text.now) }
 {
     text.split(|b| *b == b'\n').collect(alloc)
@@ -330,8 +335,8 @@ fn read_text(alloc: Global, text: &[u8]) -> Result<Script, ScriptFault>
 /// as their own process and as one that is waited for, and to none before. Each process may fork in a
 /// script with the line `serial`, and process 1 alone in one without, and only where fewer than 1,024 processes are
 /// known: each other fork line is a bad line, and never one of an unknown process. A line may have 4,096 bytes, and
-/// 200,000 behind a line `serial`, where `create p:NAME MODE OFLAGS`, `memfd OFLAGS`, `eventfd VALUE OFLAGS`,
-/// `pipe OFLAGS`, `dupfd FD MIN`, `getfl FD` and `setids UID GID` are calls, too.
+/// 200,000 behind a line `serial`, where `create p:NAME MODE OFLAGS`, `memfd OFLAGS`, `eventfd VALUE EFLAGS`,
+/// `pipe OFLAGS`, `dupfd FD MIN`, `getfl FD`, `inq FD`, `outq FD` and `setids UID GID` are calls, too.
 /// A line `off` may come last. A send's ADDR may be `-` for none; its CONTROL is `-` for no bytes, `x:HEX` for
 /// these, or items joined by `+`: `c:PID,UID,GID` for credentials and `r:N,N,..` for descriptor numbers.
 /// HEX may be text between quotation marks, with escapes of C, and SPACE `rights:N`, the space that N rights take.

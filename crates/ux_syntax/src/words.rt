@@ -4,7 +4,7 @@ ghost use Rattle.std.specs.Prelude.{◌≡◌, ◌<◌, ℕ, List, Result, IfOk,
 ghost use Rattle.ux_syntax.specs.declared.fault.Fault.{Fault};
 ghost use Rattle.std.specs.List.{list_all};
 ghost use Rattle.std.specs.Char.{is_ascii_digit};
-ghost use Rattle.ux_syntax.specs.Reading.{is_plain, number_at, fd_at, without_minus, offset_at, backlog_at, digit_at, pairs_at, hex_at, beside_at, bit_at, mode_at, type_at, option_at, whence_at, kind_at, flag_at, open_flags_at, msg_flags_at};
+ghost use Rattle.ux_syntax.specs.Reading.{is_plain, number_at, fd_at, without_minus, offset_at, backlog_at, digit_at, pairs_at, hex_at, beside_at, bit_at, mode_at, type_at, option_at, whence_at, kind_at, letter_at, flag_at, open_letters_at, open_flags_at, counter_flags_at, msg_flags_at};
 ghost use Rattle.ux_syntax.specs.Results.{IsAsRead};
 
 use crate::fault::{BAD, LineError};
@@ -265,14 +265,32 @@ impl Word for ObjKind {
     }
 }
 
+/// Whether a word begins with this letter, and what follows it.
+fn letter_of(letter: u8, word: &[u8]) -> (bool, &[u8])
+    ensures { (result.0, result.1.now) ≡ letter_at letter word.now }
+{
+    match word {
+        [first, rest @ ..] if *first == letter => (true, rest),
+        _ => (false, word),
+    }
+}
+
 /// The bits of a flag if a word begins with its letter, else none, and what follows.
 fn flag_of(letter: u8, bits: u8, word: &[u8]) -> (u8, &[u8])
     ensures { (result.0, result.1.now) ≡ flag_at letter bits word.now }
 {
-    match word {
-        [first, rest @ ..] if *first == letter => (bits, rest),
-        _ => (0, word),
-    }
+    let (is_set, rest) = letter_of(letter, word);
+    (if is_set { bits } else { 0 }, rest)
+}
+
+/// The flags of an open file description whose letters of `anx` a word begins with, and what follows.
+fn open_letters_of(word: &[u8]) -> (OpenFlags, &[u8])
+    ensures { (result.0, result.1.now) ≡ open_letters_at word.now }
+{
+    let (append, rest) = flag_of(b'a', OpenFlags::APPEND.0, word);
+    let (nonblock, rest) = flag_of(b'n', OpenFlags::NONBLOCK.0, rest);
+    let (cloexec, rest) = flag_of(b'x', OpenFlags::CLOEXEC.0, rest);
+    (OpenFlags(append | nonblock | cloexec), rest)
 }
 
 /// The flags of an open file description that a word spells: letters of `anx`, or `-` for none.
@@ -287,11 +305,27 @@ impl Word for OpenFlags {
         if word == b"-".as_slice() {
             return Ok(OpenFlags(0));
         }
-        let (append, rest) = flag_of(b'a', OpenFlags::APPEND.0, word);
-        let (nonblock, rest) = flag_of(b'n', OpenFlags::NONBLOCK.0, rest);
-        let (cloexec, rest) = flag_of(b'x', OpenFlags::CLOEXEC.0, rest);
+        let (flags, rest) = open_letters_of(word);
+        if rest.is_empty() { Ok(flags) } else { Err(BAD) }
+    }
+}
+
+/// The flags of a counter that a word spells, and whether it is a semaphore: letters of `anxs`, or `-` for none.
+impl Word for (bool, OpenFlags) {
+    ghost at = { counter_flags_at };
+
+    #[tactic(auto, unfolding(crate::specs::Reading::counter_flags_at))]
+    fn of(_alloc: Global, word: &[u8]) -> Result<(bool, OpenFlags), LineError> {
+        if word.is_empty() {
+            return Err(BAD);
+        }
+        if word == b"-".as_slice() {
+            return Ok((false, OpenFlags(0)));
+        }
+        let (flags, rest) = open_letters_of(word);
+        let (semaphore, rest) = letter_of(b's', rest);
         if rest.is_empty() {
-            Ok(OpenFlags(append | nonblock | cloexec))
+            Ok((semaphore, flags))
         } else {
             Err(BAD)
         }

@@ -118,7 +118,7 @@ fn request_in(alloc: Global, call: &str) -> Result<Request, Fail> {
 
 /// How the calls begin that stand only in a script with the line `serial`.
 const BEHIND_SERIAL: &[&str] = &[
-    "create ", "memfd ", "eventfd ", "pipe ", "dupfd ", "getfl ", "setids ",
+    "create ", "memfd ", "eventfd ", "pipe ", "dupfd ", "getfl ", "inq ", "outq ", "setids ",
 ];
 
 /// Whether a call stands only in a script with the line `serial`.

@@ -1,9 +1,9 @@
 -- The text of a run beside its script: a line for each entry, with the arguments of its call.
-use Rattle.std.specs.Prelude.{ℕ, Bool, List, [], ◌∷◌, ◌++◌, Option, Some, None, codes, map, decimal, if◌then◌else◌, ◌==◌, ◌&&◌, not, nat_le}
+use Rattle.std.specs.Prelude.{ℕ, Bool, false, List, [], ◌∷◌, ◌++◌, Option, Some, None, codes, map, decimal, if◌then◌else◌, ◌==◌, ◌&&◌, not, nat_le}
 use Rattle.std.specs.Fmt.{signed_decimal}
 use Rattle.std.specs.List.{flat_map}
 use Rattle.ux_fields.specs.Rows.{fields_of, FieldValue, fd_field, number_field, size_field, space_field, value_field, offset_field, backlog_field, path_field}
-use Rattle.ux_fields.specs.Rows.{bytes_field, addr_field, target_field, mode_field, whence_field, type_field, option_field, open_flags_field, msg_flags_field, control_field}
+use Rattle.ux_fields.specs.Rows.{bytes_field, addr_field, target_field, mode_field, whence_field, type_field, option_field, open_flags_field, counter_flags_field, msg_flags_field, control_field}
 use Rattle.ux_model.specs.Types.{OpenFlags, MsgFlags, SockType, SockOpt, Mode, Whence, Request, Entry}
 use Rattle.ux_model.specs.Control.{Control}
 use Rattle.ux_model.specs.ControlReading.{control_in}
@@ -21,9 +21,14 @@ abbrev pub or_dash : List ℕ → List ℕ
 or_dash [] = dash
 or_dash (c ∷ cs) = c ∷ cs
 
--- the letters of anx whose flags are set, or a dash: append, non-blocking, close-on-exec
+-- the letters of anx whose flags are set, and behind them s of a semaphore, or a dash: append, non-blocking, close-on-exec
+abbrev pub counter_flags : Bool × OpenFlags → List ℕ
+counter_flags c = or_dash
+    (letter (has_bits c.1.0 1) 97 ++ (letter (has_bits c.1.0 2) 110 ++ (letter (has_bits c.1.0 4) 120 ++ letter c.0 115)))
+
+-- the same of what is no semaphore
 abbrev pub open_flags : OpenFlags → List ℕ
-open_flags f = or_dash (letter (has_bits f.0 1) 97 ++ (letter (has_bits f.0 2) 110 ++ letter (has_bits f.0 4) 120))
+open_flags f = counter_flags (false, f)
 
 -- the letters of dptx whose flags are set, or a dash: DONTWAIT, PEEK, TRUNC, CMSG_CLOEXEC
 abbrev pub msg_flags : MsgFlags → List ℕ
@@ -90,6 +95,7 @@ telling read (whence_field it) = whence_text it
 telling read (type_field it) = type_text it
 telling read (option_field it) = option_text it
 telling read (open_flags_field it) = open_flags it
+telling read (counter_flags_field it) = counter_flags it
 telling read (msg_flags_field it) = msg_flags it
 telling read (control_field it) = parsed_control_text it read
 

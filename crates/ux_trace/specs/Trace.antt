@@ -155,6 +155,7 @@ errno_text Errno.ETOOMANYREFS = codes "ETOOMANYREFS"
 errno_text Errno.ECONNREFUSED = codes "ECONNREFUSED"
 errno_text Errno.ENFILE = codes "ENFILE"
 errno_text Errno.EEXIST = codes "EEXIST"
+errno_text Errno.ENOTTY = codes "ENOTTY"
 
 abbrev pub reply_text : Reply → List ℕ
 reply_text Reply.Ok = codes "ok"

@@ -82,7 +82,8 @@ impl fmt::Display for FieldText<'_> {
             Field::Whence(whence) => write!(f, "{}", whence_word(whence)),
             Field::SockType(kind) => write!(f, "{}", type_word(kind)),
             Field::SockOpt(opt) => write!(f, "{}", option_word(opt)),
-            Field::OpenFlags(flags) => write!(f, "{}", OpenLetters(flags)),
+            Field::OpenFlags(flags) => write!(f, "{}", OpenLetters(false, flags)),
+            Field::CounterFlags(semaphore, flags) => write!(f, "{}", OpenLetters(semaphore, flags)),
             Field::MsgFlags(flags) => write!(f, "{}", MessageLetters(flags)),
             Field::Control(bytes) => {
                 let control = ParsedControl {

@@ -1,7 +1,7 @@
 //! The words of an argument that is one of a few, or a set of flags.
 
 ghost use Rattle.std.specs.Prelude.{◌≡◌, [], Some, if◌then◌else◌};
-ghost use Rattle.ux_trace.specs.Echoes.{mode_text, msg_flags, open_flags, option_text, type_text, whence_text};
+ghost use Rattle.ux_trace.specs.Echoes.{counter_flags, mode_text, msg_flags, option_text, type_text, whence_text};
 
 use bitflags::Flags;
 use std::fmt;
@@ -61,21 +61,22 @@ fn letter(is_set: bool, name: &'static str) -> &'static str
     if is_set { name } else { "" }
 }
 
-/// The letters of the flags of an open file, or `-` where none is set.
+/// The letters of the flags of an open file, behind them that of a semaphore where it is one, or `-` where none is set.
 #[derive(Clone, Copy)]
-pub(crate) struct OpenLetters(pub(crate) OpenFlags);
+pub(crate) struct OpenLetters(pub(crate) bool, pub(crate) OpenFlags);
 
 impl fmt::Display for OpenLetters {
-    ghost output = { λ flags. Some (open_flags flags.0) };
+    ghost output = { λ letters. Some (counter_flags (letters.0, letters.1)) };
 
     fn fmt<W: fmt::Write>(&self, f: &mut fmt::Formatter<W>) -> fmt::Result {
-        let append = letter(self.0.contains(OpenFlags::APPEND), "a");
-        let nonblock = letter(self.0.contains(OpenFlags::NONBLOCK), "n");
-        let cloexec = letter(self.0.contains(OpenFlags::CLOEXEC), "x");
-        if append.is_empty() && nonblock.is_empty() && cloexec.is_empty() {
+        let append = letter(self.1.contains(OpenFlags::APPEND), "a");
+        let nonblock = letter(self.1.contains(OpenFlags::NONBLOCK), "n");
+        let cloexec = letter(self.1.contains(OpenFlags::CLOEXEC), "x");
+        let semaphore = letter(self.0, "s");
+        if append.is_empty() && nonblock.is_empty() && cloexec.is_empty() && semaphore.is_empty() {
             return write!(f, "-");
         }
-        write!(f, "{append}{nonblock}{cloexec}")
+        write!(f, "{append}{nonblock}{cloexec}{semaphore}")
     }
 }
 

@@ -42,6 +42,7 @@ pub fn errno_name(errno: Errno) -> &'static str
         Errno::ECONNREFUSED => "ECONNREFUSED",
         Errno::ENFILE => "ENFILE",
         Errno::EEXIST => "EEXIST",
+        Errno::ENOTTY => "ENOTTY",
     }
 }
 

@@ -23,7 +23,9 @@ pub(super) fn open_and_move<C: Copy, P: Calls<C>>(p: &mut P, who: C) -> Result<(
     let before = p.lseek(who, Fd(0), -1, Whence::Set);
     refuses("lseek", before, Errno::EINVAL)?;
     let rest = Bytes::from_slice(alloc, b"ello")?;
+    gives("in_queue", p.in_queue(who, Fd(0)), 4)?;
     gives("read", p.read(who, Fd(0), 64), rest)?;
+    gives("in_queue", p.in_queue(who, Fd(0)), 0)?;
     refuses("read", p.read(who, CLOSED, 64), Errno::EBADF)
 }
 
@@ -59,6 +61,8 @@ pub(super) fn use_objects<C: Copy, P: Calls<C>>(p: &mut P, who: C) -> Result<(),
     let count = Bytes::from_slice(alloc, &seven)?;
     gives("read", p.read(who, Fd(2), 8), count)?;
     gives("poll", p.poll(who, Fd(2)), PollFlags::OUT)?;
+    refuses("in_queue", p.in_queue(who, Fd(2)), Errno::ENOTTY)?;
+    refuses("out_queue", p.out_queue(who, Fd(2)), Errno::ENOTTY)?;
     gives("poll", p.poll(who, CLOSED), PollFlags::NVAL)?;
     gives("open", p.open(who, b"pipe", Mode::Both), Fd(3))?;
     is_whole("write_all", p.write_all(who, Fd(3), b"bytes"))?;
@@ -84,6 +88,10 @@ pub(super) fn make_objects<C: Copy, P: Calls<C>>(p: &mut P, who: C) -> Result<()
     gives("event_fd", p.event_fd(who, 7, flags), Fd(7))?;
     let value = Bytes::from_slice(alloc, &[7, 0, 0, 0, 0, 0, 0, 0])?;
     gives("read", p.read(who, Fd(7), 8), value)?;
+    gives("close", p.close(who, Fd(7)), ())?;
+    gives("semaphore", p.semaphore(who, 7, flags), Fd(7))?;
+    let one = Bytes::from_slice(alloc, &[1, 0, 0, 0, 0, 0, 0, 0])?;
+    gives("read", p.read(who, Fd(7), 8), one)?;
     gives("pipe", p.pipe(who, flags), (Fd(8), Fd(9)))?;
     gives("write", p.write(who, Fd(9), b"x"), 1)?;
     gives("exec", p.exec(who), ())

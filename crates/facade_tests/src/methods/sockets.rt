@@ -30,7 +30,12 @@ pub(super) fn talk<C: Copy, P: Calls<C>>(p: &mut P, who: C) -> Result<(), Wrong>
     gives("send", p.send(who, Fd(6), b"hi"), 2)?;
     refuses("send", p.send(who, Fd(5), b"hi"), Errno::ENOTCONN)?;
     let bytes = Bytes::from_slice(alloc, b"hi")?;
+    gives("in_queue", p.in_queue(who, Fd(7)), 2)?;
+    gives("out_queue", p.out_queue(who, Fd(6)), 2)?;
     gives("recv", p.recv(who, Fd(7), 64), plain(bytes))?;
+    gives("in_queue", p.in_queue(who, Fd(7)), 0)?;
+    gives("out_queue", p.out_queue(who, Fd(6)), 0)?;
+    refuses("in_queue", p.in_queue(who, Fd(5)), Errno::EINVAL)?;
     refuses("recv", p.recv(who, Fd(5), 64), Errno::ENOTCONN)?;
     let passed = p.send_rights(who, Fd(6), b"file", &[Fd(0)]);
     gives("send_rights", passed, 4)?;
@@ -124,5 +129,7 @@ pub(super) fn fill_the_table<C: Copy, P: Calls<C>>(p: &mut P, who: C) -> Result<
     refuses("socket_with", none, Errno::EMFILE)?;
     refuses("mem_fd", p.mem_fd(who, flags), Errno::EMFILE)?;
     let uncounted = p.event_fd(who, 0, flags);
-    refuses("event_fd", uncounted, Errno::EMFILE)
+    refuses("event_fd", uncounted, Errno::EMFILE)?;
+    let uncounted = p.semaphore(who, 0, flags);
+    refuses("semaphore", uncounted, Errno::EMFILE)
 }

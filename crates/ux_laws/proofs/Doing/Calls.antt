@@ -34,7 +34,7 @@ unfolding outcome
 act_did S p tag (Request.Open path mode flags) h = open_did S p tag path mode flags
 act_did S p tag (Request.Create path mode flags) h = create_did S p tag path mode flags
 act_did S p tag (Request.MemFd flags) h = object_did S p tag (Request.MemFd flags) _ (memory []) flags refl
-act_did S p tag (Request.EventFd value flags) h = object_did S p tag (Request.EventFd value flags) _ (counter value) flags refl
+act_did S p tag (Request.EventFd value semaphore flags) h = object_did S p tag (Request.EventFd value semaphore flags) _ (counter semaphore value) flags refl
 act_did S p tag (Request.Pipe flags) h = pipe_did S p tag flags
 act_did S p tag (Request.Read fd n) h = read_did S p tag fd n
 act_did S p tag (Request.Write fd bytes) h = write_did S p tag fd bytes
@@ -66,6 +66,8 @@ act_did S p tag request h = absurd (false≢true (sym h))
 -- what asks goes through no socket
 asks_nowhere : (S : State) (p : ℕ) (request : Request) → asks request ≡ true → socket_through S p request ≡ None
 asks_nowhere S p (Request.GetFlags fd) h = refl
+asks_nowhere S p (Request.InQueue fd) h = refl
+asks_nowhere S p (Request.OutQueue fd) h = refl
 asks_nowhere S p (Request.GetSockName fd) h = refl
 asks_nowhere S p (Request.GetPeerName fd) h = refl
 asks_nowhere S p (Request.Poll fd) h = refl

@@ -25,7 +25,7 @@ unfolding outcome
 act_near S p tag (Request.Open path mode flags) h = open_near S p path mode flags
 act_near S p tag (Request.Create path mode flags) h = create_near S p path mode flags
 act_near S p tag (Request.MemFd flags) h = object_near S p (Request.MemFd flags) _ (memory []) flags
-act_near S p tag (Request.EventFd value flags) h = object_near S p (Request.EventFd value flags) _ (counter value) flags
+act_near S p tag (Request.EventFd value semaphore flags) h = object_near S p (Request.EventFd value semaphore flags) _ (counter semaphore value) flags
 act_near S p tag (Request.Pipe flags) h = pipe_near S p flags
 act_near S p tag (Request.Read fd n) h = read_near S p fd n
 act_near S p tag (Request.Write fd bytes) h = write_near S p tag fd bytes

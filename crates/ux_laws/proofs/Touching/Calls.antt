@@ -37,7 +37,7 @@ pub each_files : (S : State) (p tag : ℕ) (request : Request) → Files S p req
 unfolding outcome
 each_files S p tag (Request.Create path mode flags) = by_making (create_makes S p path mode flags)
 each_files S p tag (Request.MemFd flags) = by_making (object_makes S p (Request.MemFd flags) _ (memory []) flags)
-each_files S p tag (Request.EventFd value flags) = by_making (object_makes S p (Request.EventFd value flags) _ (counter value) flags)
+each_files S p tag (Request.EventFd value semaphore flags) = by_making (object_makes S p (Request.EventFd value semaphore flags) _ (counter semaphore value) flags)
 each_files S p tag (Request.Pipe flags) = by_making (pipe_makes S p flags)
 each_files S p tag (Request.Read fd n) = record {
   bodies = λ o. read_touches S p fd n o;

@@ -71,7 +71,7 @@ put_alike S U k o old new there alike_body is = ap (λ (os : List (Option View))
 read_keeps : (body : Body) (at n : ℕ) (found : List ℕ × Body) → is_memory body ≡ true → read_body body at n ≡ Ok found → found.1 ≡ body
 read_keeps (memory bytes) at n found h is =
     ap (λ (r : Result (List ℕ × Body) ObjectError). elim r as (λ _. Body) [ Err e ↦ memory bytes | Ok f ↦ f.1 ]) (sym is)
-read_keeps (counter value) at n found h is = absurd (false≢true h)
+read_keeps (counter semaphore value) at n found h is = absurd (false≢true h)
 read_keeps (pipe bytes) at n found h is = absurd (false≢true h)
 
 pub read_touches : (S : State) (p : ℕ) (fd : Fd) (n o : ℕ) → Touches S p (Request.Read fd n) o (read S p fd n).next

@@ -9,6 +9,7 @@ pub(super) enum FileCall {
     Create(&'static [u8], Mode),
     MemFd,
     EventFd(u32),
+    Semaphore(u32),
     Pipe,
     Read(u32, usize),
     Write(u32, &'static [u8]),
@@ -18,6 +19,17 @@ pub(super) enum FileCall {
     DupFrom(u32, u32),
     GetFlags(u32),
     SetFlags(u32, u8),
+    InQueue(u32),
+    OutQueue(u32),
+}
+
+/// The request that makes a counter.
+fn counting(value: u32, semaphore: bool) -> Request {
+    Request::EventFd {
+        value,
+        semaphore,
+        flags: OpenFlags(0),
+    }
 }
 
 /// The request of such a call.
@@ -30,10 +42,8 @@ pub(super) fn file_request_of(alloc: Global, call: &FileCall) -> Result<Request,
             flags: plain,
         },
         FileCall::MemFd => Request::MemFd { flags: plain },
-        FileCall::EventFd(value) => Request::EventFd {
-            value: *value,
-            flags: plain,
-        },
+        FileCall::EventFd(value) => counting(*value, false),
+        FileCall::Semaphore(value) => counting(*value, true),
         FileCall::Pipe => Request::Pipe { flags: plain },
         FileCall::Read(fd, n) => Request::Read { fd: Fd(*fd), n: *n },
         FileCall::Write(fd, bytes) => Request::Write {
@@ -59,6 +69,8 @@ pub(super) fn file_request_of(alloc: Global, call: &FileCall) -> Result<Request,
             fd: Fd(*fd),
             flags: OpenFlags(*flags),
         },
+        FileCall::InQueue(fd) => Request::InQueue { fd: Fd(*fd) },
+        FileCall::OutQueue(fd) => Request::OutQueue { fd: Fd(*fd) },
     })
 }
 

@@ -87,6 +87,32 @@ const MADE: &[Row] = &[
     (1, Asked::Unlink(b"q"), Told::Err(Errno::ENOENT)),
 ];
 
+/// A read of a semaphore takes 1 of its value (eventfd(2), EFD_SEMAPHORE).
+const SEMAPHORE: &[Row] = &[
+    (1, Asked::File(FileCall::Semaphore(2)), Told::Fd(0)),
+    (
+        1,
+        Asked::File(FileCall::Read(0, 7)),
+        Told::Err(Errno::EINVAL),
+    ),
+    (1, READ, Told::Bytes(b"\x01\x00\x00\x00\x00\x00\x00\x00")),
+    (
+        1,
+        Asked::File(FileCall::Write(0, b"\x01\x00\x00\x00\x00\x00\x00\x00")),
+        Told::Count(8),
+    ),
+    (1, READ, Told::Bytes(b"\x01\x00\x00\x00\x00\x00\x00\x00")),
+    (1, READ, Told::Bytes(b"\x01\x00\x00\x00\x00\x00\x00\x00")),
+    (1, READ, Told::Err(Errno::EAGAIN)),
+    // There is nothing to be read, and room for more.
+    (1, Asked::Poll(0), Told::Poll(0b00_0010)),
+];
+
+#[test]
+fn a_semaphore_is_taken_one_by_one(rt: HostRuntime) -> Result<(), AllocError> {
+    expect_rows_of_one_process(&rt, rt.alloc(), 16, SEMAPHORE)
+}
+
 #[test]
 fn a_process_makes_file_objects(rt: HostRuntime) -> Result<(), AllocError> {
     expect_rows_of_one_process(&rt, rt.alloc(), 5, MADE)

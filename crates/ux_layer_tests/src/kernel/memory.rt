@@ -42,6 +42,13 @@ const NO_MEMORY: &[Row] = &[
         Asked::File(FileCall::Lseek(0, -1, Whence::Cur)),
         Told::At(1),
     ),
+    (1, Asked::File(FileCall::InQueue(0)), Told::Count(2)),
+    (1, Asked::File(FileCall::OutQueue(3)), Told::Count(0)),
+    (
+        1,
+        Asked::File(FileCall::OutQueue(0)),
+        Told::Err(Errno::ENOTTY),
+    ),
     (
         1,
         Asked::File(FileCall::Lseek(0, 4, Whence::End)),
@@ -91,7 +98,7 @@ const CLOSED: &[Row] = &[(1, Asked::Close(0), Told::Err(Errno::EBADF))];
 const EXIT: &[Row] = &[(1, Asked::Exit, Told::Ok)];
 
 #[test]
-fn twelve_calls_are_answered_without_memory(rt: HostRuntime) -> Result<(), Fail> {
+fn fourteen_calls_are_answered_without_memory(rt: HostRuntime) -> Result<(), Fail> {
     let alloc = rt.alloc();
     let mut machine = with_file(alloc, 16)?;
     let k = &mut machine;

@@ -105,6 +105,10 @@ impl FileObject for Watched<'_> {
         self.counter.size()
     }
 
+    fn bytes_ahead(&self, at: u64) -> Option<usize> {
+        self.counter.bytes_ahead(at)
+    }
+
     fn ready(&self) -> (bool, bool) {
         let ready = self.counter.ready();
         if !ready.0 {

@@ -443,7 +443,7 @@ abbrev pub may_change : Request → May
 may_change (Request.SetIds uid gid) = users_too
 may_change (Request.Create path mode flags) = files_made
 may_change (Request.MemFd flags) = objects_too
-may_change (Request.EventFd value flags) = objects_too
+may_change (Request.EventFd value semaphore flags) = objects_too
 may_change (Request.Pipe flags) = objects_too
 may_change (Request.Read fd n) = files_too
 may_change (Request.Write fd bytes) = files_too

@@ -1,11 +1,11 @@
 -- Worked examples, evaluated: file objects and descriptors.
-use Rattle.std.specs.Prelude.{◌≡◌, [], ◌∷◌, refl, codes, pos, negsuc}
+use Rattle.std.specs.Prelude.{◌≡◌, false, [], ◌∷◌, refl, codes, pos, negsuc}
 use Rattle.ux_model.specs.Types.{Errno, SockType, Mode, Whence, Request, Reply}
 use Rattle.ux_model.specs.Object.{memory, counter, pipe}
 use Rattle.ux_model.proofs.Examples.Play.{computing, play_released, with_files, fd, open_flags}
 
 -- a counter and a pipe
-counter_and_pipe : play_released (with_files ((codes "c", counter 0) ∷ (codes "p", pipe []) ∷ [])) 0 (
+counter_and_pipe : play_released (with_files ((codes "c", counter false 0) ∷ (codes "p", pipe []) ∷ [])) 0 (
     (1, Request.Open (codes "c") Mode.Both (open_flags 0)) ∷
     (1, Request.Read (fd 0) 8) ∷
     (1, Request.Write (fd 0) (5 ∷ 0 ∷ 0 ∷ 0 ∷ 0 ∷ 0 ∷ 0 ∷ 0 ∷ [])) ∷

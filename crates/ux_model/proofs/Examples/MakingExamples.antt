@@ -1,6 +1,6 @@
 -- Worked examples, evaluated: file objects that a process makes.
 use Rattle.std.proofs.Common.{arith}
-use Rattle.std.specs.Prelude.{◌≡◌, ℕ, List, [], ◌∷◌, length, None, refl, codes, pos}
+use Rattle.std.specs.Prelude.{◌≡◌, ℕ, true, false, List, [], ◌∷◌, length, None, refl, codes, pos}
 use Rattle.ux_model.specs.Types.{Errno, Mode, Whence, Request, Reply, Entry}
 use Rattle.ux_model.specs.Outcome.{own}
 use Rattle.ux_model.specs.Boot.{boot_state, IsBootState}
@@ -47,7 +47,7 @@ a_pipe_has_two_ends = refl
 
 -- a counter begins with the value asked for, and a file without a path goes with its descriptor
 a_counter_and_a_file : play_released one_process 0 (
-    (1, Request.EventFd 3 (open_flags 0)) ∷
+    (1, Request.EventFd 3 false (open_flags 0)) ∷
     (1, Request.Read (fd 0) 8) ∷
     (1, Request.Read (fd 0) 8) ∷
     (1, Request.MemFd (open_flags 0)) ∷
@@ -68,6 +68,20 @@ a_counter_and_a_file : play_released one_process 0 (
     (Reply.Ok, 0 ∷ []) ∷ []
 unfolding computing
 a_counter_and_a_file = refl
+
+-- a semaphore is taken by one at a time
+a_semaphore : play_released one_process 0 (
+    (1, Request.EventFd 2 true (open_flags 0)) ∷
+    (1, Request.Read (fd 0) 8) ∷
+    (1, Request.Read (fd 0) 8) ∷
+    (1, Request.Read (fd 0) 8) ∷ [])
+    ≡
+    (Reply.Fd (fd 0), []) ∷
+    (Reply.Bytes (1 ∷ 0 ∷ 0 ∷ 0 ∷ 0 ∷ 0 ∷ 0 ∷ 0 ∷ []), []) ∷
+    (Reply.Bytes (1 ∷ 0 ∷ 0 ∷ 0 ∷ 0 ∷ 0 ∷ 0 ∷ 0 ∷ []), []) ∷
+    (refused Errno.EAGAIN, []) ∷ []
+unfolding computing
+a_semaphore = refl
 
 -- a path that was made keeps its file until it is taken away, and can be made once at a time
 a_path_keeps_its_file : play_released one_process 0 (
@@ -107,7 +121,7 @@ a_path_keeps_its_file = refl
 a_full_table : play_released (boot_state [] (process 1 ∷ [])) 0 (
     (1, Request.Pipe (open_flags 0)) ∷
     (1, Request.MemFd (open_flags 0)) ∷
-    (1, Request.EventFd 0 (open_flags 0)) ∷
+    (1, Request.EventFd 0 false (open_flags 0)) ∷
     (1, Request.Create (codes "f") Mode.Both (open_flags 0)) ∷
     (1, Request.Open (codes "f") Mode.Both (open_flags 0)) ∷ [])
     ≡

@@ -7,7 +7,7 @@ use Rattle.std.proofs.lemmas.List.{get_or-set_same, get_or-set_other}
 use Rattle.ux_model.specs.Types.{Errno, Fd, Cred, Name, SockOpt, Mode, OpenFlags, Whence, Request, Reply}
 use Rattle.ux_model.specs.Places.{place}
 use Rattle.ux_model.specs.Limits.{offset_limit}
-use Rattle.ux_model.specs.Object.{View, is_memory, after_failure}
+use Rattle.ux_model.specs.Object.{View, is_memory, bytes_ahead, after_failure}
 use Rattle.ux_model.specs.Names.{named, is_valid_path, is_unnamed_addr}
 use Rattle.ux_model.specs.Socket.{Socket, is_stream, is_dgram, peer_of, tied_socket}
 use Rattle.ux_model.specs.Description.{Description}
@@ -17,8 +17,9 @@ use Rattle.ux_model.specs.Release.{drop_unreferenced, settled}
 use Rattle.ux_model.specs.Outcome.{Outcome, Chosen, own, lacking_memory, failing, descriptor_at}
 use Rattle.ux_model.specs.Seeking.{lseek, seek_to, seek_base}
 use Rattle.ux_model.specs.Descriptors.{get_flags, set_flags}
+use Rattle.ux_model.specs.QueueLengths.{in_queue, out_queue}
 use Rattle.ux_model.specs.Naming.{unlink}
-use Rattle.ux_model.specs.Connecting.{listen, shutdown}
+use Rattle.ux_model.specs.Connecting.{listener_of, listen, shutdown}
 use Rattle.ux_model.specs.Options.{get_opt, tell_option, tell_cred, may_limit, set_opt}
 use Rattle.ux_model.specs.Readiness.{poll}
 use Rattle.ux_model.specs.Users.{no_id, may_become, set_ids}
@@ -59,6 +60,18 @@ flags_spare S p fd flags = found IsSparing S p fd _ refl (λ e D g h. refl)
 get_flags_spare : (S : State) (p : ℕ) (fd : Fd) → IsSparing (get_flags S p fd)
 unfolding get_flags
 get_flags_spare S p fd = found IsSparing S p fd _ refl (λ e D g h. refl)
+
+in_queue_spares : (S : State) (p : ℕ) (fd : Fd) → IsSparing (in_queue S p fd)
+unfolding in_queue
+in_queue_spares S p fd = found IsSparing S p fd _ refl (λ e D g h. by_target IsSparing D.target _ _
+    (λ o t. maybe IsSparing (place S.objects o) _ _ refl
+    (λ view there. maybe IsSparing (bytes_ahead view.body D.offset) _ _ refl (λ n is. refl)))
+    (λ s t. either IsSparing (is_some (listener_of s.phase)) _ _ (λ b. refl) (λ b. refl)))
+
+out_queue_spares : (S : State) (p : ℕ) (fd : Fd) → IsSparing (out_queue S p fd)
+unfolding out_queue
+out_queue_spares S p fd = found IsSparing S p fd _ refl (λ e D g h. by_target IsSparing D.target _ _ (λ o t. refl)
+    (λ s t. either IsSparing (is_dgram s.kind) _ _ (λ b. refl) (λ b. refl)))
 
 close_spares : (S : State) (p : ℕ) (fd : Fd) → IsSparing (close S p fd)
 unfolding close
@@ -131,6 +144,8 @@ each_spares : (S : State) (p tag : ℕ) (request : Request) → takes_no_memory 
 unfolding outcome
 each_spares S p tag (Request.Lseek fd offset whence) h = lseek_spares S p fd offset whence
 each_spares S p tag (Request.GetFlags fd) h = get_flags_spare S p fd
+each_spares S p tag (Request.InQueue fd) h = in_queue_spares S p fd
+each_spares S p tag (Request.OutQueue fd) h = out_queue_spares S p fd
 each_spares S p tag (Request.SetFlags fd flags) h = flags_spare S p fd flags
 each_spares S p tag (Request.Close fd) h = close_spares S p fd
 each_spares S p tag (Request.Unlink path) h = unlink_spares S path

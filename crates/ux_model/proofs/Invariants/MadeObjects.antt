@@ -107,7 +107,7 @@ pipe_counts S p flags = either Q (asks_append flags) _ _ (λ b. omega arith)
 none_refused : (request : Request) (e : Errno) → makes_object request (Reply.Err e) ≡ false
 none_refused (Request.Create path mode flags) e = refl
 none_refused (Request.MemFd flags) e = refl
-none_refused (Request.EventFd value flags) e = refl
+none_refused (Request.EventFd value semaphore flags) e = refl
 none_refused (Request.Pipe flags) e = refl
 none_refused request e = refl
 
@@ -139,10 +139,10 @@ call_counts S U p tag (Request.Create path mode flags) reply chosen =
 call_counts S U p tag (Request.MemFd flags) reply chosen =
     chosen_counts S U (Request.MemFd flags) reply (make_file S p flags) (each_obeys S p tag (Request.MemFd flags))
     (object_counts S p (Request.MemFd flags) _ (memory []) flags (λ e. refl) (λ n. refl)) chosen
-call_counts S U p tag (Request.EventFd value flags) reply chosen =
-    chosen_counts S U (Request.EventFd value flags) reply (make_counter S p value flags)
-    (each_obeys S p tag (Request.EventFd value flags))
-    (object_counts S p (Request.EventFd value flags) _ (counter value) flags (λ e. refl) (λ n. refl)) chosen
+call_counts S U p tag (Request.EventFd value semaphore flags) reply chosen =
+    chosen_counts S U (Request.EventFd value semaphore flags) reply (make_counter S p value semaphore flags)
+    (each_obeys S p tag (Request.EventFd value semaphore flags))
+    (object_counts S p (Request.EventFd value semaphore flags) _ (counter semaphore value) flags (λ e. refl) (λ n. refl)) chosen
 call_counts S U p tag (Request.Pipe flags) reply chosen =
     chosen_counts S U (Request.Pipe flags) reply (make_pipe S p flags) (each_obeys S p tag (Request.Pipe flags)) (pipe_counts S p flags)
     chosen

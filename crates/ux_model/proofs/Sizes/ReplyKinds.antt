@@ -9,7 +9,7 @@ use Rattle.ux_model.specs.Places.{place}
 use Rattle.ux_model.specs.Limits.{made_limit, read_limit, offset_limit, record_bytes_limit}
 use Rattle.ux_model.specs.Flags.{asks_append, can_read, can_write, are_send_flags, are_receive_flags, no_flags}
 use Rattle.ux_model.specs.Object.{Body, View, ObjectError, would_block, full, invalid, read_body, write_body, is_memory, is_pipe}
-use Rattle.ux_model.specs.Object.{memory, counter}
+use Rattle.ux_model.specs.Object.{memory, counter, bytes_ahead}
 use Rattle.ux_model.specs.Names.{named, is_valid_path, is_valid_addr, is_unnamed_addr, free_name}
 use Rattle.ux_model.specs.Message.{Message}
 use Rattle.ux_model.specs.Control.{Control}
@@ -37,6 +37,7 @@ use Rattle.ux_model.specs.Reading.{is_short_read, read_error, read_answer, read}
 use Rattle.ux_model.specs.Writing.{write_place, write_answer, write}
 use Rattle.ux_model.specs.Seeking.{seek_base, seek_to, lseek}
 use Rattle.ux_model.specs.Descriptors.{dup, dup2, dup_from, get_flags, set_flags}
+use Rattle.ux_model.specs.QueueLengths.{in_queue, out_queue}
 use Rattle.ux_model.specs.Options.{tell_cred, tell_option, get_opt, pass_cred_on, may_limit, change_option, set_opt}
 use Rattle.ux_model.specs.Readiness.{poll}
 use Rattle.ux_model.specs.Users.{no_id, may_become, set_ids}
@@ -96,6 +97,18 @@ get_flags_is S p fd = found (Is is_flags) S p fd _ refl (λ e D g h. refl)
 flags_is : (S : State) (p : ℕ) (fd : Fd) (flags : OpenFlags) → Is is_done (set_flags S p fd flags)
 unfolding set_flags
 flags_is S p fd flags = found (Is is_done) S p fd _ refl (λ e D g h. refl)
+
+in_queue_is : (S : State) (p : ℕ) (fd : Fd) → Is is_count (in_queue S p fd)
+unfolding in_queue
+in_queue_is S p fd = found (Is is_count) S p fd _ refl (λ e D g h. by_target (Is is_count) D.target _ _
+    (λ o t. maybe (Is is_count) (place S.objects o) _ _ refl
+    (λ view there. maybe (Is is_count) (bytes_ahead view.body D.offset) _ _ refl (λ n is. refl)))
+    (λ s t. either (Is is_count) (is_some (listener_of s.phase)) _ _ (λ b. refl) (λ b. refl)))
+
+out_queue_is : (S : State) (p : ℕ) (fd : Fd) → Is is_count (out_queue S p fd)
+unfolding out_queue
+out_queue_is S p fd = found (Is is_count) S p fd _ refl (λ e D g h. by_target (Is is_count) D.target _ _ (λ o t. refl)
+    (λ s t. either (Is is_count) (is_dgram s.kind) _ _ (λ b. refl) (λ b. refl)))
 
 close_is : (S : State) (p : ℕ) (fd : Fd) → Is is_done (close S p fd)
 unfolding close
@@ -401,7 +414,7 @@ unfolding outcome
 each_is S p tag (Request.Open path mode flags) = open_is S p path mode flags
 each_is S p tag (Request.Create path mode flags) = create_is S p path mode flags
 each_is S p tag (Request.MemFd flags) = object_is S p _ (memory []) flags
-each_is S p tag (Request.EventFd value flags) = object_is S p _ (counter value) flags
+each_is S p tag (Request.EventFd value semaphore flags) = object_is S p _ (counter semaphore value) flags
 each_is S p tag (Request.Pipe flags) = pipe_is S p flags
 each_is S p tag (Request.Read fd n) = read_file_is S p fd n
 each_is S p tag (Request.Write fd bytes) = write_is S p tag fd bytes
@@ -410,6 +423,8 @@ each_is S p tag (Request.Dup fd) = dup_is S p fd
 each_is S p tag (Request.Dup2 fd to) = dup2_is S p fd to
 each_is S p tag (Request.DupFrom fd minimum) = dup_from_is S p fd minimum
 each_is S p tag (Request.GetFlags fd) = get_flags_is S p fd
+each_is S p tag (Request.InQueue fd) = in_queue_is S p fd
+each_is S p tag (Request.OutQueue fd) = out_queue_is S p fd
 each_is S p tag (Request.SetFlags fd flags) = flags_is S p fd flags
 each_is S p tag (Request.Close fd) = close_is S p fd
 each_is S p tag (Request.Unlink path) = unlink_is S path

@@ -1,6 +1,6 @@
 -- Each reply fits the room of its request: by its kind, where that holds neither bytes nor names.
 use Rattle.std.proofs.Common.{◌≡◌, ℕ, ◌≤◌, Bool, true, false, not, ◌&&◌, ◌||◌, ◌==◌, if◌then◌else◌, List, [], ◌∷◌, length, min, Option}
-use Rattle.std.proofs.Common.{Some, None, Result, Ok, Err, refl, ap, sym, subst, ◌∙◌, arith}
+use Rattle.std.proofs.Common.{◌-◌, Some, None, Result, Ok, Err, refl, ap, sym, subst, ◌∙◌, arith}
 use Rattle.std.specs.Prelude.{nat_lt, take, drop, is_none, slice_get}
 use Rattle.std.specs.Int.{w64, to_le_bytes}
 use Rattle.std.proofs.lemmas.Bool.{ltb-false, false≢true}
@@ -9,7 +9,7 @@ use Rattle.ux_model.specs.Types.{Errno, Fd, Addr, SockOpt, OpenFlags, MsgFlags, 
 use Rattle.ux_model.specs.Places.{place}
 use Rattle.ux_model.specs.Limits.{name_limit, read_limit, greatest_queue_limit}
 use Rattle.ux_model.specs.Flags.{can_read, can_write, are_receive_flags, no_flags}
-use Rattle.ux_model.specs.Object.{Body, memory, counter, pipe, View, ObjectError, would_block, full, invalid, read_body}
+use Rattle.ux_model.specs.Object.{Body, memory, counter, pipe, View, ObjectError, would_block, full, invalid, taken_of, read_body}
 use Rattle.ux_model.specs.Object.{is_pipe}
 use Rattle.ux_model.specs.Message.{Message}
 use Rattle.ux_model.specs.Front.{Front, front_of}
@@ -231,11 +231,11 @@ abbrev FewRead : ℕ → Result (List ℕ × Body) ObjectError → Type 0
 FewRead n (Ok found) = length found.0 ≤ n
 FewRead n (Err error) = Unit {0}
 
-few_counted : (value n : ℕ) → FewRead n (read_body (counter value) 0 n)
-few_counted value n = go (nat_lt n 8) refl (value == 0)
+few_counted : (semaphore : Bool) (value n : ℕ) → FewRead n (read_body (counter semaphore value) 0 n)
+few_counted semaphore value n = go (nat_lt n 8) refl (value == 0)
   where
-    go : (b : Bool) → nat_lt n 8 ≡ b → (c : Bool) →
-        FewRead n (if b then Err invalid else if c then Err would_block else Ok (to_le_bytes w64 value, counter 0))
+    go : (b : Bool) → nat_lt n 8 ≡ b → (c : Bool) → FewRead n (if b then Err invalid else if c then Err would_block else
+        Ok (to_le_bytes w64 (taken_of semaphore value), counter semaphore (value - taken_of semaphore value)))
     go true h c = tt
     go false h true = tt
     go false h false = ltb-false n 8 h
@@ -250,7 +250,7 @@ few_piped bytes n = go (n == 0) (length bytes == 0)
 
 few_read : (body : Body) (at n : ℕ) → FewRead n (read_body body at n)
 few_read (memory bytes) at n = let cut = length-take n (drop at bytes) in omega (arith, cut)
-few_read (counter value) at n = few_counted value n
+few_read (counter semaphore value) at n = few_counted semaphore value n
 few_read (pipe bytes) at n = few_piped bytes n
 
 read_error_within : (n : ℕ) (S : State) (o : ℕ) (view : View) (e : ObjectError) → Within (data_room n) (read_error S o view e)
@@ -297,8 +297,8 @@ each_within S p tag (Request.GetSockName fd) all = sock_name_within S p fd all
 each_within S p tag (Request.GetPeerName fd) all = peer_name_within S p fd all
 each_within S p tag (Request.RecvMsg fd n space flags) all = recv_within S p fd n space flags all
 each_within S p tag (Request.GetOpt fd opt) all = plain (option_plain opt _ (each_is S p tag (Request.GetOpt fd opt)))
-each_within S p tag request all = plain (of_kind (kind_of request) _ (λ bytes. refl) (λ flags count bytes control from. refl)
-    (λ fd addr. refl) (λ addr. refl) (each_is S p tag request))
+each_within S p tag request all = plain (of_kind (kind_of request) (outcome S p tag request).reply (λ bytes. refl)
+    (λ flags count bytes control from. refl) (λ fd addr. refl) (λ addr. refl) (each_is S p tag request))
 
 -- ---- the law
 

@@ -1,18 +1,22 @@
 -- Of each call that asks: it leaves the state as it was, and reports no number. All laws on what calls leave follow for it.
 use Rattle.std.proofs.Common.{◌≡◌, ℕ, true, false, None, refl, ap, sym, subst}
+use Rattle.std.specs.Prelude.{is_some}
 use Rattle.std.proofs.lemmas.Bool.{false≢true}
 use Rattle.ux_model.specs.Types.{Errno, Fd, Request, Reply}
 use Rattle.ux_model.specs.Places.{place}
 use Rattle.ux_model.specs.State.{State}
 use Rattle.ux_model.specs.Outcome.{Outcome, Chosen, own, lacking_memory, failing, refuse, descriptor_at}
+use Rattle.ux_model.specs.Object.{bytes_ahead}
 use Rattle.ux_model.specs.Descriptors.{get_flags}
+use Rattle.ux_model.specs.QueueLengths.{in_queue, out_queue}
 use Rattle.ux_model.specs.Binding.{get_sock_name}
-use Rattle.ux_model.specs.Connecting.{get_peer_name}
+use Rattle.ux_model.specs.Socket.{is_dgram}
+use Rattle.ux_model.specs.Connecting.{listener_of, get_peer_name}
 use Rattle.ux_model.specs.Readiness.{poll}
 use Rattle.ux_model.specs.Step.{outcome}
 use Rattle.ux_model.specs.Asking.{asks}
 use Rattle.ux_model.specs.Invariants.{LeftByRefusal}
-use Rattle.ux_model.proofs.Changes.Walk.{maybe, found, found_socket, found_peer}
+use Rattle.ux_model.proofs.Changes.Walk.{either, maybe, by_target, found, found_socket, found_peer}
 use Rattle.ux_model.proofs.Changes.Reaching.{May, Reaches, still}
 use Rattle.ux_model.proofs.Changes.HeldOpen.{same_objects}
 use Rattle.ux_model.proofs.Changes.Obeying.{failures, tells_choice, is_error, Obeys}
@@ -53,6 +57,19 @@ get_flags_asks : (S : State) (p : ℕ) (fd : Fd) → Asks S (get_flags S p fd)
 unfolding get_flags
 get_flags_asks S p fd = found (Asks S) S p fd _ (refuses refl refl) (λ e D g h. tells refl refl refl refl refl refl)
 
+in_queue_asks : (S : State) (p : ℕ) (fd : Fd) → Asks S (in_queue S p fd)
+unfolding in_queue
+in_queue_asks S p fd = found (Asks S) S p fd _ (refuses refl refl) (λ e D g h. by_target (Asks S) D.target _ _
+    (λ o t. maybe (Asks S) (place S.objects o) _ _ (refuses refl refl) (λ view there.
+    maybe (Asks S) (bytes_ahead view.body D.offset) _ _ (refuses refl refl) (λ n is. tells refl refl refl refl refl refl)))
+    (λ s t. either (Asks S) (is_some (listener_of s.phase)) _ _ (λ b. refuses refl refl) (λ b. tells refl refl refl refl refl refl)))
+
+out_queue_asks : (S : State) (p : ℕ) (fd : Fd) → Asks S (out_queue S p fd)
+unfolding out_queue
+out_queue_asks S p fd = found (Asks S) S p fd _ (refuses refl refl) (λ e D g h. by_target (Asks S) D.target _ _
+    (λ o t. refuses refl refl)
+    (λ s t. either (Asks S) (is_dgram s.kind) _ _ (λ b. refuses refl refl) (λ b. tells refl refl refl refl refl refl)))
+
 sock_name_asks : (S : State) (p : ℕ) (fd : Fd) → Asks S (get_sock_name S p fd)
 unfolding get_sock_name
 sock_name_asks S p fd = found_socket (Asks S) S p fd _ (refuses refl refl) (refuses refl refl)
@@ -71,6 +88,8 @@ poll_asks S p fd = maybe (Asks S) (descriptor_at S p fd) _ _ (tells refl refl re
 pub each_asks : (S : State) (p tag : ℕ) (request : Request) → asks request ≡ true → Asks S (outcome S p tag request)
 unfolding outcome
 each_asks S p tag (Request.GetFlags fd) h = get_flags_asks S p fd
+each_asks S p tag (Request.InQueue fd) h = in_queue_asks S p fd
+each_asks S p tag (Request.OutQueue fd) h = out_queue_asks S p fd
 each_asks S p tag (Request.GetSockName fd) h = sock_name_asks S p fd
 each_asks S p tag (Request.GetPeerName fd) h = peer_name_asks S p fd
 each_asks S p tag (Request.Poll fd) h = poll_asks S p fd
@@ -78,6 +97,8 @@ each_asks S p tag request h = absurd (false≢true h)
 
 pub asking_plain : (request : Request) → asks request ≡ true → IsPlain request
 asking_plain (Request.GetFlags fd) h = record { no_end = refl; keeps = λ n held. refl }
+asking_plain (Request.InQueue fd) h = record { no_end = refl; keeps = λ n held. refl }
+asking_plain (Request.OutQueue fd) h = record { no_end = refl; keeps = λ n held. refl }
 asking_plain (Request.GetSockName fd) h = record { no_end = refl; keeps = λ n held. refl }
 asking_plain (Request.GetPeerName fd) h = record { no_end = refl; keeps = λ n held. refl }
 asking_plain (Request.Poll fd) h = record { no_end = refl; keeps = λ n held. refl }

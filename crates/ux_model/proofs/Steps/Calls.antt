@@ -384,7 +384,7 @@ unfolding outcome
 act_obeys S p tag (Request.Open path mode flags) h = open_obeys S p path mode flags
 act_obeys S p tag (Request.Create path mode flags) h = create_obeys S p path mode flags
 act_obeys S p tag (Request.MemFd flags) h = object_obeys S p _ (memory []) flags
-act_obeys S p tag (Request.EventFd value flags) h = object_obeys S p _ (counter value) flags
+act_obeys S p tag (Request.EventFd value semaphore flags) h = object_obeys S p _ (counter semaphore value) flags
 act_obeys S p tag (Request.Pipe flags) h = pipe_obeys S p flags
 act_obeys S p tag (Request.Read fd n) h = read_obeys S p fd n
 act_obeys S p tag (Request.Write fd bytes) h = write_obeys S p tag fd bytes

@@ -43,7 +43,7 @@ unfolding outcome
 act_shows S p tag (Request.Open path mode flags) P here h = open_shows S p tag path mode flags P here
 act_shows S p tag (Request.Create path mode flags) P here h = create_shows S p tag path mode flags P here
 act_shows S p tag (Request.MemFd flags) P here h = memory_shows S p tag flags P here
-act_shows S p tag (Request.EventFd value flags) P here h = counter_shows S p tag value flags P here
+act_shows S p tag (Request.EventFd value semaphore flags) P here h = counter_shows S p tag value semaphore flags P here
 act_shows S p tag (Request.Pipe flags) P here h = pipe_shows S p tag flags P here
 act_shows S p tag (Request.Read fd n) P here h = read_shows S p tag fd n P here
 act_shows S p tag (Request.Write fd bytes) P here h = write_shows S p tag fd bytes

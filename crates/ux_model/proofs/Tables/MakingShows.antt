@@ -1,5 +1,5 @@
 -- So do calls that make a file object.
-use Rattle.std.proofs.Common.{◌≡◌, ℕ, suc, not, List, [], ◌∷◌, ◌++◌, Option, Some, is_some, ◌||◌, refl, arith}
+use Rattle.std.proofs.Common.{◌≡◌, ℕ, suc, Bool, not, List, [], ◌∷◌, ◌++◌, Option, Some, is_some, ◌||◌, refl, arith}
 use Rattle.ux_model.specs.Types.{Name, Mode, OpenFlags, Request, Reply}
 use Rattle.ux_model.specs.Flags.{asks_append, asks_nonblock}
 use Rattle.ux_model.specs.Places.{filled}
@@ -42,14 +42,14 @@ memory_shows S p tag flags Q here =
     (file_description (next_object S) Mode.Both flags) flags Q here (record { no_end = refl; keeps = λ n held. refl }) low
     refl refl refl refl)))
 
-pub counter_shows : (S : State) (p tag value : ℕ) (flags : OpenFlags) (Q : Process) → process_at S p ≡ Some Q →
-    Shows S p tag (Request.EventFd value flags) (make_counter S p value flags)
+pub counter_shows : (S : State) (p tag value : ℕ) (semaphore : Bool) (flags : OpenFlags) (Q : Process) → process_at S p ≡ Some Q →
+    Shows S p tag (Request.EventFd value semaphore flags) (make_counter S p value semaphore flags)
 unfolding make_object
-counter_shows S p tag value flags Q here =
-    either (Shows S p tag (Request.EventFd value flags)) (asks_append flags) _ _ (λ b. refuses refl)
-    (λ b. maybe (Shows S p tag (Request.EventFd value flags)) (lowest_free (table_of S p)) _ _ (refuses refl)
-    (λ n low. either (Shows S p tag (Request.EventFd value flags)) (object_table_full S) _ _ (λ full. refuses refl)
-    (λ full. made_shows S p tag n (Request.EventFd value flags) (S.objects ++ Some (new_view (counter value)) ∷ []) S.paths
+counter_shows S p tag value semaphore flags Q here =
+    either (Shows S p tag (Request.EventFd value semaphore flags)) (asks_append flags) _ _ (λ b. refuses refl)
+    (λ b. maybe (Shows S p tag (Request.EventFd value semaphore flags)) (lowest_free (table_of S p)) _ _ (refuses refl)
+    (λ n low. either (Shows S p tag (Request.EventFd value semaphore flags)) (object_table_full S) _ _ (λ full. refuses refl)
+    (λ full. made_shows S p tag n (Request.EventFd value semaphore flags) (S.objects ++ Some (new_view (counter semaphore value)) ∷ []) S.paths
     (file_description (next_object S) Mode.Both flags) flags Q here (record { no_end = refl; keeps = λ n held. refl }) low
     refl refl refl refl)))
 

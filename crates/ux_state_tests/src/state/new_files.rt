@@ -22,15 +22,16 @@ fn make_pipe<O: FileObject>(
     assert!(rt; made == answer);
 }
 
-/// Makes a counter of process 1.
+/// Makes a counter of process 1, or a semaphore.
 fn make_counter<O: FileObject>(
     rt: &impl Abort,
     state: &mut State<O>,
     value: u32,
+    semaphore: bool,
     answer: Result<Fd, MakeError>,
 ) {
     assert!(rt; state.is_live(Pid(1)));
-    let made = state.make_counter(Pid(1), value, PLAIN);
+    let made = state.make_counter(Pid(1), value, semaphore, PLAIN);
     assert!(rt; made == answer);
 }
 
@@ -112,9 +113,24 @@ fn a_pipe_is_made_and_closed_once(rt: HostRuntime) -> Result<(), Fail> {
 fn a_counter_starts_at_its_value(rt: HostRuntime) -> Result<(), Fail> {
     let mut held = start_with_files(&rt, rt.alloc())?;
     let s = &mut held.state;
-    make_counter(&rt, s, 258, Ok(Fd(0)));
+    make_counter(&rt, s, 258, false, Ok(Fd(0)));
     let value = read(&rt, s, 2, Ok(8));
     assert!(rt; u64::from_le_bytes(value) == 258);
+    let _empty = read(&rt, s, 2, Err(ObjError::WouldBlock));
+    close(&rt, s, 1, 0);
+    settle(&rt, s, &[2]);
+    Ok(())
+}
+
+#[test]
+fn a_semaphore_is_taken_one_by_one(rt: HostRuntime) -> Result<(), Fail> {
+    let mut held = start_with_files(&rt, rt.alloc())?;
+    let s = &mut held.state;
+    make_counter(&rt, s, 2, true, Ok(Fd(0)));
+    for _ in 0..2 {
+        let value = read(&rt, s, 2, Ok(8));
+        assert!(rt; u64::from_le_bytes(value) == 1);
+    }
     let _empty = read(&rt, s, 2, Err(ObjError::WouldBlock));
     close(&rt, s, 1, 0);
     settle(&rt, s, &[2]);

@@ -159,6 +159,8 @@ fn calls_on_descriptors_are_read(rt: HostRuntime) -> Result<(), Fail> {
     let from = Request::DupFrom { fd, minimum };
     expect_request(&rt, alloc, "dupfd 3 4294967295", from)?;
     expect_request(&rt, alloc, "getfl 3", Request::GetFlags { fd })?;
+    expect_request(&rt, alloc, "inq 3", Request::InQueue { fd })?;
+    expect_request(&rt, alloc, "outq 3", Request::OutQueue { fd })?;
     let flags = OpenFlags(6);
     expect_request(&rt, alloc, "flags 3 nx", Request::SetFlags { fd, flags })
 }

@@ -31,23 +31,41 @@ fn creations_of_files_are_read(rt: HostRuntime) -> Result<(), Fail> {
     expect_request(&rt, alloc, "memfd -", Request::MemFd { flags: none })
 }
 
-/// Sees that a call makes a counter with this value.
+/// Sees that a call makes a counter with this value, and whether as a semaphore.
 fn expect_counter(
     rt: &impl Abort,
     alloc: Global,
     call: &str,
     value: u32,
+    semaphore: bool,
     flags: OpenFlags,
 ) -> Result<(), Fail> {
-    expect_request(rt, alloc, call, Request::EventFd { value, flags })
+    let made = Request::EventFd {
+        value,
+        semaphore,
+        flags,
+    };
+    expect_request(rt, alloc, call, made)
 }
+
+/// Calls that make a counter: the value, whether it is a semaphore, and the bits of the flags.
+const COUNTERS: &[(&str, u32, bool, u8)] = &[
+    ("eventfd 0 -", 0, false, 0),
+    ("eventfd 4294967295 nx", 4294967295, false, 6),
+    ("eventfd 0 s", 0, true, 0),
+    ("eventfd 1 as", 1, true, 1),
+    ("eventfd 1 ns", 1, true, 2),
+    ("eventfd 1 xs", 1, true, 4),
+    ("eventfd 4294967295 anxs", 4294967295, true, 7),
+];
 
 #[test]
 fn counters_and_pipes_are_read(rt: HostRuntime) -> Result<(), Fail> {
     let alloc = rt.alloc();
     let (none, nx) = (OpenFlags(0), OpenFlags(6));
-    expect_counter(&rt, alloc, "eventfd 0 -", 0, none)?;
-    expect_counter(&rt, alloc, "eventfd 4294967295 nx", 4294967295, nx)?;
+    for (call, value, semaphore, flags) in COUNTERS {
+        expect_counter(&rt, alloc, call, *value, *semaphore, OpenFlags(*flags))?;
+    }
     expect_request(&rt, alloc, "pipe nx", Request::Pipe { flags: nx })?;
     expect_request(&rt, alloc, "pipe -", Request::Pipe { flags: none })
 }
@@ -84,6 +102,14 @@ const LINES: &[(&str, &str)] = &[
     ("1 eventfd 00 -", "line 3: bad line"),
     ("1 eventfd 4294967296 -", "line 3: bad line"),
     ("1 eventfd 0 - -", "line 3: bad line"),
+    ("1 eventfd 0 s", ""),
+    ("1 eventfd 0 sx", "line 3: bad line"),
+    ("1 eventfd 0 ss", "line 3: bad line"),
+    ("1 eventfd 0 -s", "line 3: bad line"),
+    ("1 eventfd 0 s-", "line 3: bad line"),
+    ("1 eventfd 0 S", "line 3: bad line"),
+    ("1 memfd s", "line 3: bad line"),
+    ("1 pipe xs", "line 3: bad line"),
     ("1 pipe", "line 3: bad line"),
     ("1 pipe - -", "line 3: bad line"),
     ("1 pipe xn", "line 3: bad line"),

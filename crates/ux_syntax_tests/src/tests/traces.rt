@@ -137,6 +137,7 @@ const REFUSALS: &[(Errno, &str)] = &[
     (Errno::ECONNREFUSED, "ECONNREFUSED"),
     (Errno::ENFILE, "ENFILE"),
     (Errno::EEXIST, "EEXIST"),
+    (Errno::ENOTTY, "ENOTTY"),
 ];
 
 #[test]
@@ -344,6 +345,14 @@ fn entries_of_files_are_printed(rt: HostRuntime) -> Result<(), Fail> {
             Reply::Flags(OpenFlags(7)),
             "5 1 7 getfl = flags APPEND|NONBLOCK|CLOEXEC\n",
         ),
+        ((5, 7), "inq 3", Reply::Count(5), "5 1 7 inq = n 5\n"),
+        (
+            (5, 7),
+            "inq 3",
+            Reply::Err(Errno::ENOTTY),
+            "5 1 7 inq = err ENOTTY\n"
+        ),
+        ((5, 7), "outq 3", Reply::Count(0), "5 1 7 outq = n 0\n"),
     ]?;
     expect_rows(&rt, rt.alloc(), rows)
 }
@@ -369,6 +378,12 @@ fn entries_of_calls_that_make_file_objects_are_printed(rt: HostRuntime) -> Resul
             "eventfd 8 n",
             Reply::Err(Errno::ENFILE),
             "5 1 7 eventfd = err ENFILE\n",
+        ),
+        (
+            (5, 7),
+            "eventfd 8 s",
+            Reply::Fd(Fd(3)),
+            "5 1 7 eventfd = fd 3\n",
         ),
         (
             (5, 7),
