@@ -3,3 +3,4 @@ pub mod Releasing
 pub mod Keeping
 pub mod Bridges
 pub mod ReleasingAll
+pub mod Listing

@@ -1,5 +1,7 @@
 -- What contracts see of `Slots`: values by number, and how many references are counted to each.
-use Rattle.std.specs.Prelude.{◌≡◌, ℕ, ◌+◌, ◌<◌, ◌==◌, cond, List, [], ◌∷◌, ◌++◌, length, Option, Some, IsSome, slice_index_or, refl}
+use Rattle.std.specs.Prelude.{◌≡◌, ◌↔◌, ℕ, ◌+◌, ◌<◌, ◌==◌, cond, List, [], ◌∷◌, ◌++◌, length, Option, Some, IsSome, slice_index_or, refl}
+use Rattle.std.specs.List.{Contains}
+use Rattle.std.specs.List.Sorted.{IsStrictlyIncreasing}
 use Rattle.std.specs.Coded.{Coded, code_by, coded×, coded_ℕ, coded_list, coded_option}
 use Rattle.ux_model.specs.Places.{place, filled}
 
@@ -46,3 +48,8 @@ module _ {T : Type 0} where
   -- each value that is there has a reference
   abbrev pub IsNoneDead : Held T → Type 0
   IsNoneDead held = (d : ℕ) → IsSome (place held.places d) → 0 < count_at held d
+
+  -- the number of each value that is there, once and rising, and no other
+  pub record Lists (places : List (Option T)) (ids : List ℕ) : Type 0 where
+    pub there : (d : ℕ) → Contains ids d ↔ IsSome (place places d)
+    pub rising : IsStrictlyIncreasing ids

@@ -1,10 +1,13 @@
 //! Values by handle, with a count of the references to each.
-ghost use Rattle.std.specs.Prelude.{◌≡◌, ℕ, ◌↔◌, ◌+◌, ◌-◌, ◌^◌, ◌<◌, ◌≤◌, [], length, None, Some, is_some, if◌then◌else◌, IsTrue, IsErr, IsOk, IsNone, IfOk, IfErr, IfSome, IfNone, OnOk, OnErr, OnSome};
+ghost use Rattle.std.specs.Prelude.{◌≡◌, nat_eq, ℕ, ◌↔◌, ◌+◌, ◌-◌, ◌^◌, ◌<◌, ◌≤◌, [], length, None, Some, is_some, if◌then◌else◌, IsTrue, IsErr, IsOk, IsSome, IsNone, IfOk, IfErr, IfSome, IfNone, OnOk, OnErr, OnSome};
 ghost use Rattle.std.specs.Option.{option_copied, option_copied_mut};
 ghost use Rattle.std.specs.Borrow.{sem};
+ghost use Rattle.std.specs.HashMap as map;
+ghost use Rattle.std.specs.List.{Contains};
+ghost use Rattle.std.specs.List.Sorted.{IsStrictlyIncreasing};
 ghost use Rattle.slab.specs.Slab as slab;
 ghost use Rattle.ux_model.specs.Places.{place, emptied};
-ghost use Rattle.ux_slots.specs.Held.{count_at, once, HasMore, Adds, IsNoneDead};
+ghost use Rattle.ux_slots.specs.Held.{count_at, once, HasMore, Adds, IsNoneDead, Lists};
 ghost use Rattle.ux_slots.specs.Kept.{Puts, IsReleased, put_in_front};
 
 use crate::slot::Slot;
@@ -84,6 +87,17 @@ impl<T> Slots<T> {
         ensures { result ≡ length self.now.places }
     {
         DescriptionId::new(self.next)
+    }
+
+    /// The handles of the values that are there, by rising number. It visits these alone.
+    ///
+    /// # Errors
+    ///
+    /// Out of memory.
+    pub fn ids(&self, alloc: Global) -> Result<Vec<DescriptionId>, AllocError>
+        ensures { IfOk result (λ ids. Lists self.now.places ids.items) }
+    {
+        ids_in(alloc, &self.index)
     }
 
     /// The value of a handle, until it is taken out.
@@ -263,6 +277,19 @@ impl<T> Slots<T> {
         self.head = slot.next;
         Some((DescriptionId::new(number), slot.value))
     }
+}
+
+/// The numbers of an index, rising.
+fn ids_in(alloc: Global, index: &HashMap<u128, usize>) -> Result<Vec<DescriptionId>, AllocError>
+    ensures there { IfOk result (λ ids. (d : ℕ) → Contains ids.items d ↔ IsSome (map.get nat_eq index.now d)) }
+    ensures rising { IfOk result (λ ids. IsStrictlyIncreasing ids.items) }
+{
+    let mut ids = Vec::with_capacity(alloc, index.len())?;
+    for number in index.keys() {
+        ids.push(DescriptionId::new(*number))?;
+    }
+    ids.sort_unstable_by_key(|id| id.number());
+    Ok(ids)
 }
 
 /// Puts every slot on a new release list, and answers the first of that.

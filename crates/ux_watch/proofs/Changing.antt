@@ -1,22 +1,24 @@
 -- What has changed, description by description.
-use Rattle.std.proofs.Common.{◌≡◌, ◌≢◌, ℕ, zero, suc, ◌+◌, ◌<◌, ◌≤◌, Bool, true, false, ◌==◌, ◌&&◌, List, [], ◌∷◌, ◌++◌, length, take, drop}
-use Rattle.std.proofs.Common.{get_or, set, Option, Some, None, refl, ap, sym, ◌∙◌, subst, ⊎_elim, eq-eqb, inl, inr, ◌⊎◌, arith}
-use Rattle.std.specs.Prelude.{slice_get}
-use Rattle.std.proofs.lemmas.Bool.{false≢true, eqb-true, cases_lt, cases_eq, cases_Bool}
-use Rattle.std.proofs.lemmas.Bool.Decides.{eqb_tells}
-use Rattle.std.proofs.lemmas.List.{append-nil, drop_all, take_all, get_or_past, get_or-set_same, get_or-set_other, get_or_push, length-set, take_more, length_push}
-use Rattle.ux_model.specs.Types.{PollFlags}
+use Rattle.std.proofs.Common.{◌≡◌, ◌≢◌, ℕ, zero, suc, ◌+◌, ◌<◌, ◌≤◌, Bool, true, false, ◌==◌, ◌&&◌, nat_lt, List, [], ◌∷◌, ◌++◌, length, map, take}
+use Rattle.std.proofs.Common.{Option, Some, None, refl, ap, sym, ◌∙◌, subst, ⊎_elim, eq-eqb, inl, inr, ◌⊎◌, arith}
+use Rattle.std.specs.Prelude.{slice_get, slice_index_or, if◌then◌else◌, IsSome, is_some}
+use Rattle.std.specs.List.{Contains}
+use Rattle.std.specs.List.Sorted.{IsStrictlySortedBy}
+use Rattle.std.specs.Ordering.{nat_cmp}
+use Rattle.std.proofs.lemmas.Bool.{false≢true, eqb-true, ne_eqb, cases_lt, cases_eq}
+use Rattle.std.proofs.lemmas.Bool.Decides.{nat_tests}
+use Rattle.std.proofs.lemmas.Map.Keys.{sorted_tail, below_from_sorted, sorted_from_strictly_increasing}
+use Rattle.std.proofs.lemmas.List.{take_all}
 use Rattle.ux_model.specs.Description.{Description, socket_in}
 use Rattle.ux_model.specs.State.{State, description_at}
 use Rattle.ux_model.specs.Message.{queued_bytes}
 use Rattle.ux_model.specs.Readiness.{not_open, poll_flags, readiness}
-use Rattle.ux_model.proofs.Lists.ByPlace.{get_below, get_before, get_within}
-use Rattle.ux_model.proofs.Lists.Appending.{get_push}
-use Rattle.ux_model.proofs.Lists.ChangedPlaces.{bool_cases}
+use Rattle.ux_model.proofs.Lists.ByPlace.{get_below, get_before}
+use Rattle.ux_slots.specs.Held.{Lists}
 use Rattle.ux_watch.specs.declared.told.Told.{Told}
 use Rattle.ux_watch.specs.declared.watch.Change.{Change}
 use Rattle.ux_watch.specs.Telling.{told, gone, unread, is_same}
-use Rattle.ux_watch.specs.Changing.{change_of, told_at, AreNew, HasEachNew, AreRising, AreBelow, AreChanges, Notes}
+use Rattle.ux_watch.specs.Changing.{change_of, told_at, AreNew, HasEachNew, AreRising, AreChanges, IsFrom, lower, first_at, without}
 
 -- ---- what is told
 
@@ -61,8 +63,9 @@ told_by S d x = record {
   messages = length (unread (socket_in x));
 }
 
-told_past : (S : State) (d : ℕ) → length S.descriptions ≤ d → told S d ≡ gone
-told_past S d past = ap (told_by S d) (get_or_past S.descriptions d None past)
+-- of what isn't there
+told_gone : (S : State) (d : ℕ) → description_at S d ≡ None → told S d ≡ gone
+told_gone S d none = ap (told_by S d) none
 
 -- ---- lists that grow
 
@@ -77,156 +80,302 @@ last_at : {X : Type 0} (xs : List X) (x : X) → slice_get (xs ++ x ∷ []) (len
 last_at [] x = refl
 last_at (y ∷ xs) x = last_at xs x
 
--- ---- changes
+-- ---- what a list says from a number on
 
-pub nothing : (last : ℕ → Told) (S : State) → AreChanges last S 0 []
-nothing last S = record {
+wider : (m n : ℕ) (l : List Change) → m ≤ n → IsFrom n l → IsFrom m l
+wider m n [] le h = tt
+wider m n (c ∷ cs) le h = (omega (arith, le, h.0), h.1)
+
+gone_below : (n : ℕ) (l : List Change) → IsFrom n l → (d : ℕ) → d < n → told_at l d ≡ gone
+gone_below n [] h d less = refl
+gone_below n (c ∷ cs) h d less =
+    rw (ne_eqb c.id d (λ e. omega (arith, e, h.0, less))) (gone_below (c.id + 1) cs h.1 d (omega (arith, h.0, less)))
+
+first_is : (d : ℕ) (l : List Change) → IsFrom d l → first_at l d ≡ told_at l d
+first_is d [] h = refl
+first_is d (c ∷ cs) h = elim (cases_eq c.id d) [
+  | inl e ↦ rw (eq-eqb c.id d e) refl
+  | inr ne ↦ rw (ne_eqb c.id d ne) (sym (gone_below (c.id + 1) cs h.1 d (omega (arith, h.0))))
+]
+
+rest_from : (d : ℕ) (l : List Change) → IsFrom d l → IsFrom (d + 1) (without l d)
+rest_from d [] h = tt
+rest_from d (c ∷ cs) h = elim (cases_eq c.id d) [
+  | inl e ↦ rw (eq-eqb c.id d e) (wider (d + 1) (c.id + 1) cs (omega (arith, e)) h.1)
+  | inr ne ↦ rw (ne_eqb c.id d ne) (omega (arith, h.0, ne), h.1)
+]
+
+rest_same : (d : ℕ) (l : List Change) (q : ℕ) → d < q → told_at (without l d) q ≡ told_at l q
+rest_same d [] q less = refl
+rest_same d (c ∷ cs) q less = elim (cases_eq c.id d) [
+  | inl e ↦ rw (eq-eqb c.id d e, ne_eqb c.id q (λ f. omega (arith, e, f, less))) refl
+  | inr ne ↦ rw (ne_eqb c.id d ne) refl
+]
+
+-- what is left of a list that says this of all numbers: that of each from n on
+pub record Left (n : ℕ) (whole : ℕ → Told) (l : List Change) : Type 0 where
+  pub from : IsFrom n l
+  pub same : (d : ℕ) → n ≤ d → told_at l d ≡ whole d
+
+left_further : (n d : ℕ) (whole : ℕ → Told) (l : List Change) → n ≤ d → IsFrom d l → Left n whole l → Left (d + 1) whole (without l d)
+left_further n d whole l le from left = record {
+  from = rest_from d l from;
+  same = λ q more. rest_same d l q (omega (arith, more)) ∙ left.same q (omega (arith, le, more));
+}
+
+first_told : (n d : ℕ) (whole : ℕ → Told) (l : List Change) → n ≤ d → IsFrom d l → Left n whole l → first_at l d ≡ whole d
+first_told n d whole l le from left = first_is d l from ∙ left.same d le
+
+-- ---- the lower of the first numbers
+
+lesser : (a b d : ℕ) → (if nat_lt b a then b else a) ≡ d → (d ≤ a) × (d ≤ b)
+lesser a b d is = (grind (arith, nat_tests, is), grind (arith, nat_tests, is))
+
+one_of : (a b n d : ℕ) → (if nat_lt b a then b else a) ≡ d → n ≤ a → n ≤ b → n ≤ d
+one_of a b n d is left right = grind (arith, nat_tests, is, left, right)
+
+lower_some : (n d : ℕ) (l m : List Change) → lower l m ≡ Some d → IsFrom n l → IsFrom n m → (n ≤ d) × (IsFrom d l × IsFrom d m)
+lower_some n d [] [] is h k = absurd (cc is)
+lower_some n d [] (b ∷ ys) is h k = let same : b.id ≡ d = cc is in (omega (arith, k.0, same), (tt, (omega (arith, same), k.1)))
+lower_some n d (a ∷ xs) [] is h k = let same : a.id ≡ d = cc is in (omega (arith, h.0, same), ((omega (arith, same), h.1), tt))
+lower_some n d (a ∷ xs) (b ∷ ys) is h k =
+    let same : (if nat_lt b.id a.id then b.id else a.id) ≡ d = cc is in
+    let least = lesser a.id b.id d same in
+    (one_of a.id b.id n d same h.0 k.0, ((least.0, h.1), (least.1, k.1)))
+
+lower_none : (l m : List Change) → lower l m ≡ None → (l ≡ []) × (m ≡ [])
+lower_none [] [] is = (refl, refl)
+lower_none [] (b ∷ ys) is = absurd (cc is)
+lower_none (a ∷ xs) [] is = absurd (cc is)
+lower_none (a ∷ xs) (b ∷ ys) is = absurd (cc is)
+
+-- ---- changes below a number
+
+pub record ChangesBelow (n : ℕ) (before after : ℕ → Told) (cs : List Change) : Type 0 where
+  pub new : (i : ℕ) (c : Change) → slice_get cs i ≡ Some c → (c.now ≡ after c.id) × (before c.id ≢ after c.id)
+  pub each : (d : ℕ) → d < n → before d ≢ after d → (i : ℕ) × (slice_get cs i ≡ Some (record { id = d; now = after d }))
+  pub rising : AreRising cs
+  pub below : (i : ℕ) (c : Change) → slice_get cs i ≡ Some c → c.id < n
+
+abbrev change_with : ℕ → Told → Change
+change_with id now = record { id = id; now = now }
+
+nothing : (before after : ℕ → Told) → ChangesBelow 0 before after []
+nothing before after = record {
   new = λ i c h. absurd (cc h);
   each = λ d h other. absurd (omega (arith, h));
   rising = λ i l a b less h k. absurd (cc h);
   below = λ i c h. absurd (cc h);
 }
 
-pub skipped : (last : ℕ → Told) (S : State) (n : ℕ) (cs : List Change) → is_same (told S n) (last n) ≡ true →
-    AreChanges last S n cs → AreChanges last S (n + 1) cs
-skipped last S n cs same so_far = record {
+-- where both say the same of the numbers between
+idle : (n d : ℕ) (before after : ℕ → Told) (cs : List Change) → n ≤ d → ((q : ℕ) → n ≤ q → q < d → before q ≡ after q) →
+    ChangesBelow n before after cs → ChangesBelow d before after cs
+idle n d before after cs le same so_far = record {
   new = so_far.new;
-  each = λ d h other. at d h other (cases_eq d n);
+  each = λ q h other. ⊎_elim {C = (i : ℕ) × (slice_get cs i ≡ Some (change_with q (after q)))} (λ less. so_far.each q less other)
+      (λ past. absurd (other (same q past h))) (cases_lt q n);
   rising = so_far.rising;
-  below = λ i c h. let b = so_far.below i c h in omega (arith, b);
+  below = λ i c h. let b = so_far.below i c h in omega (arith, b, le);
 }
-  where
-    at : (d : ℕ) → d < n + 1 → last d ≢ told S d → (d ≡ n) ⊎ (d ≡ n → ⊥) →
-        (i : ℕ) × (slice_get cs i ≡ Some (change_of S d))
-    at d h other (inl e) = absurd (other (subst (λ (k : ℕ). last k ≡ told S k) (sym e) (sym (same_told (told S n) (last n) same))))
-    at d h other (inr ne) = so_far.each d (omega (arith, h, ne)) other
 
-pub pushed : (last : ℕ → Told) (S : State) (n : ℕ) (cs : List Change) → is_same (told S n) (last n) ≡ false →
-    AreChanges last S n cs → AreChanges last S (n + 1) (cs ++ change_of S n ∷ [])
-pushed last S n cs differs so_far = record {
-  new = λ i c h. ⊎_elim {C = (c.now ≡ told S c.id) × (last c.id ≢ told S c.id)} (λ p. so_far.new i c p)
-      (λ p. subst (λ (x : Change). (x.now ≡ told S x.id) × (last x.id ≢ told S x.id)) p.1 (refl, own)) (data_at cs (change_of S n) c i h);
+skipped : (n : ℕ) (before after : ℕ → Told) (cs : List Change) → before n ≡ after n →
+    ChangesBelow n before after cs → ChangesBelow (n + 1) before after cs
+skipped n before after cs same so_far = idle n (n + 1) before after cs (omega arith)
+    (λ q past less. let here : n ≡ q = omega (arith, past, less) in subst (λ (k : ℕ). before k ≡ after k) here same) so_far
+
+pushed : (n : ℕ) (before after : ℕ → Told) (cs : List Change) → before n ≢ after n →
+    ChangesBelow n before after cs → ChangesBelow (n + 1) before after (cs ++ change_with n (after n) ∷ [])
+pushed n before after cs differs so_far = record {
+  new = λ i c h. ⊎_elim {C = (c.now ≡ after c.id) × (before c.id ≢ after c.id)} (λ p. so_far.new i c p)
+      (λ p. subst (λ (x : Change). (x.now ≡ after x.id) × (before x.id ≢ after x.id)) p.1 (refl, differs)) (data_at cs one c i h);
   each = λ d h other. at d h other (cases_eq d n);
-  rising = λ i l a b less h k. rise i l a b less (data_at cs (change_of S n) a i h) (data_at cs (change_of S n) b l k);
+  rising = λ i l a b less h k. rise i l a b less (data_at cs one a i h) (data_at cs one b l k);
   below = λ i c h. ⊎_elim {C = c.id < n + 1} (λ p. let b = so_far.below i c p in omega (arith, b))
-      (λ p. subst (λ (x : Change). x.id < n + 1) p.1 (omega arith)) (data_at cs (change_of S n) c i h);
+      (λ p. subst (λ (x : Change). x.id < n + 1) p.1 (omega arith)) (data_at cs one c i h);
 }
   where
-    own : last n ≢ told S n
-    own e = other_told (told S n) (last n) differs (sym e)
+    one : Change
+    one = change_with n (after n)
 
-    at : (d : ℕ) → d < n + 1 → last d ≢ told S d → (d ≡ n) ⊎ (d ≡ n → ⊥) →
-        (i : ℕ) × (slice_get (cs ++ change_of S n ∷ []) i ≡ Some (change_of S d))
-    at d h other (inl e) = (length cs, last_at cs (change_of S n) ∙ ap (λ (k : ℕ). Some (change_of S k)) (sym e))
+    at : (d : ℕ) → d < n + 1 → before d ≢ after d → (d ≡ n) ⊎ (d ≡ n → ⊥) →
+        (i : ℕ) × (slice_get (cs ++ one ∷ []) i ≡ Some (change_with d (after d)))
+    at d h other (inl e) = (length cs, last_at cs one ∙ ap (λ (k : ℕ). Some (change_with k (after k))) (sym e))
     at d h other (inr ne) =
         let found = so_far.each d (omega (arith, h, ne)) other in
-        (found.0, get_before cs (change_of S n ∷ []) found.0 (get_below cs found.0 _ found.1) ∙ found.1)
+        (found.0, get_before cs (one ∷ []) found.0 (get_below cs found.0 _ found.1) ∙ found.1)
 
-    rise : (i l : ℕ) (a b : Change) → i < l → (slice_get cs i ≡ Some a) ⊎ ((i ≡ length cs) × (change_of S n ≡ a)) →
-        (slice_get cs l ≡ Some b) ⊎ ((l ≡ length cs) × (change_of S n ≡ b)) → a.id < b.id
+    rise : (i l : ℕ) (a b : Change) → i < l → (slice_get cs i ≡ Some a) ⊎ ((i ≡ length cs) × (one ≡ a)) →
+        (slice_get cs l ≡ Some b) ⊎ ((l ≡ length cs) × (one ≡ b)) → a.id < b.id
     rise i l a b less (inl h) (inl k) = so_far.rising i l a b less h k
     rise i l a b less (inl h) (inr k) = subst (λ (x : Change). a.id < x.id) k.1 (so_far.below i a h)
     rise i l a b less (inr h) (inl k) = let under = get_below cs l b k in let at_end = h.0 in absurd (omega (arith, under, at_end, less))
     rise i l a b less (inr h) (inr k) = let first = h.0 in let second = k.0 in absurd (omega (arith, first, second, less))
 
--- ---- all numbers
+-- ---- two lists, from the lower numbers on
 
-pub has_each : (old : List Told) (S : State) (count : ℕ) (cs : List Change) → length old ≤ count → length S.descriptions ≤ count →
-    AreChanges (told_at old) S count cs → HasEachNew (told_at old) S cs
-has_each old S count cs long made are d other = ⊎_elim
-    {C = (i : ℕ) × (slice_get cs i ≡ Some (change_of S d))} (λ h. are.each d h other)
-    (λ past. absurd (other (get_or_past old d gone (omega (arith, long, past)) ∙ sym (told_past S d (omega (arith, made, past))))))
-    (cases_lt d count)
+-- the changes up to a number, from which on nothing of the lists is gone
+pub record Merged (before after : ℕ → Told) (l m cs : List Change) : Type 0 where
+  pub n : ℕ
+  pub changes : ChangesBelow n before after cs
+  pub old : Left n before l
+  pub new : Left n after m
 
--- what was noted is what holds now
-pub told_now : (old grown new : List Told) (S : State) (cs : List Change) → AreNew (told_at old) S cs → HasEachNew (told_at old) S cs →
-    ((d : ℕ) → told_at grown d ≡ told_at old d) → Notes grown cs new → (d : ℕ) → told_at new d ≡ told S d
-told_now old grown new S cs sound complete same notes d = ⊎_elim {C = told_at new d ≡ told S d}
-    (λ e. notes.other d (λ i c h at. (sound i c h).1 (subst (λ (k : ℕ). told_at old k ≡ told S k) (sym at) (same_told _ _ e)))
-    ∙ same d ∙ same_told _ _ e)
-    (λ e. let found = complete d (other_told _ _ e) in notes.told found.0 _ found.1)
-    (cases_Bool (is_same (told_at old d) (told S d)))
-
--- ---- noting
-
--- the changes at places below n are noted
-pub record NotedBelow (old : List Told) (cs : List Change) (n : ℕ) (new : List Told) : Type 0 where
-  pub told : (i : ℕ) (c : Change) → i < n → slice_get cs i ≡ Some c → told_at new c.id ≡ c.now
-  pub other : (d : ℕ) → ((i : ℕ) (c : Change) → i < n → slice_get cs i ≡ Some c → c.id ≢ d) → told_at new d ≡ told_at old d
-  pub long : length new ≡ length old
-
-pub none_noted : (old : List Told) (cs : List Change) → NotedBelow old cs 0 old
-none_noted old cs = record {
-  told = λ i c h at. absurd (omega (arith, h));
-  other = λ d none. refl;
-  long = refl;
+pub begun : (l m : List Change) → IsFrom 0 l → IsFrom 0 m → Merged (told_at l) (told_at m) l m []
+begun l m h k = record {
+  n = 0;
+  changes = nothing (told_at l) (told_at m);
+  old = record { from = h; same = λ d le. refl };
+  new = record { from = k; same = λ d le. refl };
 }
 
-pub one_noted : (old new : List Told) (cs : List Change) (n : ℕ) (c : Change) → AreBelow (length old) cs → AreRising cs →
-    slice_get cs n ≡ Some c → NotedBelow old cs n new → NotedBelow old cs (n + 1) (set new c.id c.now)
-one_noted old new cs n c below rising at noted = record {
-  told = λ i a h there. tell i a h there (cases_eq i n);
-  other = λ d none. get_or-set_other new c.id d c.now gone (λ e. none n c (omega arith) at (sym e))
-      ∙ noted.other d (λ i a h there. none i a (omega (arith, h)) there);
-  long = length-set new c.id c.now ∙ noted.long;
+module _ (before after : ℕ → Told) (l m cs : List Change) (d : ℕ) (is : lower l m ≡ Some d) (so_far : Merged before after l m cs) where
+  at_least : so_far.n ≤ d
+  at_least = (lower_some so_far.n d l m is so_far.old.from so_far.new.from).0
+
+  both_from : IsFrom d l × IsFrom d m
+  both_from = (lower_some so_far.n d l m is so_far.old.from so_far.new.from).1
+
+  was : first_at l d ≡ before d
+  was = first_told so_far.n d before l at_least both_from.0 so_far.old
+
+  holds : first_at m d ≡ after d
+  holds = first_told so_far.n d after m at_least both_from.1 so_far.new
+
+  up_to : ChangesBelow d before after cs
+  up_to = idle so_far.n d before after cs at_least
+      (λ q past less. sym (so_far.old.same q past) ∙ gone_below d l both_from.0 q less ∙ sym (gone_below d m both_from.1 q less)
+      ∙ so_far.new.same q past) so_far.changes
+
+  further : (ys : List Change) → ChangesBelow (d + 1) before after ys → Merged before after (without l d) (without m d) ys
+  further ys changes = record {
+    n = d + 1;
+    changes = changes;
+    old = left_further so_far.n d before l at_least both_from.0 so_far.old;
+    new = left_further so_far.n d after m at_least both_from.1 so_far.new;
+  }
+
+  pub merged_skipped : is_same (first_at m d) (first_at l d) ≡ true → Merged before after (without l d) (without m d) cs
+  merged_skipped alike =
+      further cs (skipped d before after cs (sym was ∙ sym (same_told (first_at m d) (first_at l d) alike) ∙ holds) up_to)
+
+  pub merged_pushed : is_same (first_at m d) (first_at l d) ≡ false →
+      Merged before after (without l d) (without m d) (cs ++ change_with d (first_at m d) ∷ [])
+  merged_pushed differs =
+      subst (λ (t : Told). Merged before after (without l d) (without m d) (cs ++ change_with d t ∷ [])) (sym holds)
+      (further _ (pushed d before after cs
+      (λ e. other_told (first_at m d) (first_at l d) differs (holds ∙ sym e ∙ sym was)) up_to))
+
+pub merged : (before after : ℕ → Told) (l m cs : List Change) → lower l m ≡ None → Merged before after l m cs → AreChanges before after cs
+merged before after l m cs is so_far = record {
+  new = so_far.changes.new;
+  each = λ d other. ⊎_elim {C = (i : ℕ) × (slice_get cs i ≡ Some (change_with d (after d)))} (λ less. so_far.changes.each d less other)
+      (λ past. absurd (other (sym (so_far.old.same d past) ∙ ap (λ (x : List Change). told_at x d) (none.0 ∙ sym none.1)
+      ∙ so_far.new.same d past))) (cases_lt d so_far.n);
+  rising = so_far.changes.rising;
 }
   where
-    inside : c.id < length new
-    inside = let b = below n c at in let same = noted.long in omega (arith, b, same)
+    none : (l ≡ []) × (m ≡ [])
+    none = lower_none l m is
 
-    tell : (i : ℕ) (a : Change) → i < n + 1 → slice_get cs i ≡ Some a → (i ≡ n) ⊎ (i ≡ n → ⊥) → told_at (set new c.id c.now) a.id ≡ a.now
-    tell i a h there (inl e) =
-        let same : Some c ≡ Some a = sym at ∙ ap (slice_get cs) (sym e) ∙ there in
-        let one : c ≡ a = cc same in
-        subst (λ (x : Change). told_at (set new c.id c.now) x.id ≡ x.now) one (get_or-set_same new c.id c.now gone inside)
-    tell i a h there (inr ne) =
-        let before : a.id < c.id = rising i n a c (omega (arith, h, ne)) there at in
-        get_or-set_other new c.id a.id c.now gone (λ e. omega (arith, e, before)) ∙ noted.told i a (omega (arith, h, ne)) there
+fewer : (d : ℕ) (l : List Change) → length (without l d) ≤ length l
+fewer d [] = omega arith
+fewer d (c ∷ cs) = elim (cases_eq c.id d) [
+  | inl e ↦ rw (eq-eqb c.id d e) (omega arith)
+  | inr ne ↦ rw (ne_eqb c.id d ne) (omega arith)
+]
 
-pub all_noted : (old new : List Told) (cs : List Change) (n : ℕ) → length cs ≤ n → NotedBelow old cs n new → Notes old cs new
-all_noted old new cs n past noted = record {
-  told = λ i c there. let b = get_below cs i c there in noted.told i c (omega (arith, b, past)) there;
-  other = λ d none. noted.other d (λ i c h there. none i c there);
-}
+less_by_one : (d : ℕ) (c : Change) (cs : List Change) → c.id ≡ d → length (without (c ∷ cs) d) < length (c ∷ cs)
+less_by_one d c cs e = rw (eq-eqb c.id d e) (omega arith)
 
-pub wider : (m n : ℕ) (cs : List Change) → m ≤ n → AreBelow m cs → AreBelow n cs
-wider m n cs le below i c at = let b = below i c at in omega (arith, b, le)
+-- each turn takes one off at least
+pub shorter : (d : ℕ) (l m : List Change) → lower l m ≡ Some d → length (without l d) + length (without m d) < length l + length m
+shorter d [] [] is = absurd (cc is)
+shorter d [] (b ∷ ys) is = let less = less_by_one d b ys (cc is) in omega (arith, less)
+shorter d (a ∷ xs) [] is = let less = less_by_one d a xs (cc is) in omega (arith, less)
+shorter d (a ∷ xs) (b ∷ ys) is =
+    let same : (if nat_lt b.id a.id then b.id else a.id) ≡ d = cc is in
+    let either : (a.id ≡ d) ⊎ (b.id ≡ d) = grind (arith, nat_tests, same) in
+    elim either [
+      | inl e ↦ let less = less_by_one d a xs e in let other = fewer d (b ∷ ys) in omega (arith, less, other)
+      | inr e ↦ let less = less_by_one d b ys e in let other = fewer d (a ∷ xs) in omega (arith, less, other)
+    ]
+
+-- ---- what holds of all that is there
+
+told_in : (S : State) (d : ℕ) (ids : List ℕ) (k : ℕ) → k < length ids → slice_index_or ids k d ≡ d → told_at (map (change_of S) ids) d ≡ told S d
+told_in S d [] k h e = absurd (omega (arith, h))
+told_in S d (x ∷ xs) zero h e = rw (eq-eqb x d e) (ap (told S) e)
+told_in S d (x ∷ xs) (suc k) h e = elim (cases_eq x d) [
+  | inl same ↦ rw (eq-eqb x d same) (ap (told S) same)
+  | inr ne ↦ rw (ne_eqb x d ne) (told_in S d xs k (omega (arith, h)) e)
+]
+
+told_out : (S : State) (d : ℕ) (ids : List ℕ) → (Contains ids d → ⊥) → told_at (map (change_of S) ids) d ≡ gone
+told_out S d [] none = refl
+told_out S d (x ∷ xs) none =
+    rw (ne_eqb x d (λ e. none (0, omega arith, e))) (told_out S d xs (λ c. none (suc c.0, omega (arith, c.1), c.2)))
+
+pub told_listed : (S : State) (ids : List ℕ) → Lists S.descriptions ids → (d : ℕ) → told_at (map (change_of S) ids) d ≡ told S d
+told_listed S ids lists d = go (description_at S d) refl
+  where
+    go : (o : Option Description) → description_at S d ≡ o → told_at (map (change_of S) ids) d ≡ told S d
+    go None e = told_out S d ids (λ c. let there : IsSome (description_at S d) = (lists.there d).0 c in absurd (cc (sym (ap is_some e) ∙ there)))
+        ∙ sym (told_gone S d e)
+    go (Some D) e = let found : Contains ids d = (lists.there d).1 (ap is_some e) in told_in S d ids found.0 found.1 found.2
+
+rises : (S : State) (n : ℕ) (ids : List ℕ) → IsStrictlySortedBy nat_cmp ids → (0 < length ids → n ≤ slice_index_or ids 0 n) → IsFrom n (map (change_of S) ids)
+rises S n [] up first = tt
+rises S n (x ∷ []) up first = (first (omega arith), tt)
+rises S n (x ∷ y ∷ ys) up first = (
+  first (omega arith),
+  rises S (x + 1) (y ∷ ys) (sorted_tail nat_cmp x (y ∷ ys) up)
+      (λ some. let next = below_from_sorted (x ∷ y ∷ ys) 0 1 0 up (omega arith) (omega arith) in omega (arith, next)),
+)
+
+pub listed_rises : (S : State) (ids : List ℕ) → Lists S.descriptions ids → IsFrom 0 (map (change_of S) ids)
+listed_rises S ids lists = rises S 0 ids (sorted_from_strictly_increasing ids lists.rising) (λ some. omega arith)
+
+-- ---- of a state
+
+pub are_new : (last now : ℕ → Told) (S : State) (cs : List Change) → ((d : ℕ) → now d ≡ told S d) → AreChanges last now cs → AreNew last S cs
+are_new last now S cs holds changes = λ i c h.
+    let found = changes.new i c h in (found.0 ∙ holds c.id, λ e. found.1 (e ∙ sym (holds c.id)))
+
+pub has_each : (last now : ℕ → Told) (S : State) (cs : List Change) → ((d : ℕ) → now d ≡ told S d) → AreChanges last now cs →
+    HasEachNew last S cs
+has_each last now S cs holds changes = λ d other.
+    let found = changes.each d (λ e. other (e ∙ holds d)) in
+    (found.0, found.1 ∙ ap (λ (t : Told). Some (change_with d t)) (holds d))
 
 -- ---- as the program has them
 
-abbrev change_with : ℕ → Told → Change
-change_with id now = record { id = id; now = now }
+module _ (before after : ℕ → Told) (l m left right cs ys : List Change) (r : Option ℕ) (d : ℕ) (now seen : Told) (same : Bool)
+    (least : r ≡ lower l m) (is : r ≡ Some d) (holds : now ≡ first_at m d) (was : seen ≡ first_at l d) (tells : same ≡ is_same now seen)
+    (first : left ≡ without l d) (second : right ≡ without m d) (so_far : Merged before after l m cs) where
+  alike : is_same (first_at m d) (first_at l d) ≡ same
+  alike = ap (λ (t : Told). is_same t (first_at l d)) (sym holds) ∙ ap (is_same now) (sym was) ∙ sym tells
 
-pub pushed_as : (last : ℕ → Told) (S : State) (n id : ℕ) (now seen : Told) (same : Bool) (cs ys : List Change) → id ≡ n → now ≡ told S id →
-    seen ≡ last n → same ≡ is_same now seen → same ≡ false → ys ≡ cs ++ record { id = id; now = now } ∷ [] → AreChanges last S n cs →
-    AreChanges last S (n + 1) ys
-pushed_as last S n id now seen same cs ys here holds was tells differs is so_far =
-    let at : now ≡ told S n = holds ∙ ap (told S) here in
-    let one : change_with id now ≡ change_of S n = ap (λ (k : ℕ). change_with k now) here ∙ ap (λ (t : Told). change_with n t) at in
-    let other : is_same (told S n) (last n) ≡ false =
-    ap (λ (t : Told). is_same t (last n)) (sym at) ∙ ap (is_same now) (sym was) ∙ sym tells ∙ differs in
-    subst (λ (l : List Change). AreChanges last S (n + 1) l) (sym (is ∙ ap (λ (x : Change). cs ++ x ∷ []) one)) (pushed last S n cs other so_far)
+  moved : (xs : List Change) → Merged before after (without l d) (without m d) xs → ys ≡ xs → Merged before after left right ys
+  moved xs made e =
+      subst (λ (x : List Change). Merged before after x right ys) (sym first)
+      (subst (λ (x : List Change). Merged before after (without l d) x ys) (sym second)
+      (subst (λ (x : List Change). Merged before after (without l d) (without m d) x) (sym e) made))
 
-pub skipped_as : (last : ℕ → Told) (S : State) (n id : ℕ) (now seen : Told) (same : Bool) (cs ys : List Change) → id ≡ n → now ≡ told S id →
-    seen ≡ last n → same ≡ is_same now seen → same ≡ true → ys ≡ cs → AreChanges last S n cs → AreChanges last S (n + 1) ys
-skipped_as last S n id now seen same cs ys here holds was tells alike is so_far =
-    let at : now ≡ told S n = holds ∙ ap (told S) here in
-    let both : is_same (told S n) (last n) ≡ true =
-    ap (λ (t : Told). is_same t (last n)) (sym at) ∙ ap (is_same now) (sym was) ∙ sym tells ∙ alike in
-    subst (λ (l : List Change). AreChanges last S (n + 1) l) (sym is) (skipped last S n cs both so_far)
+  pub pushed_as : same ≡ false → ys ≡ cs ++ change_with d now ∷ [] → Merged before after left right ys
+  pushed_as differs e = moved _ (merged_pushed before after l m cs d (sym least ∙ is) so_far (alike ∙ differs))
+      (e ∙ ap (λ (t : Told). cs ++ change_with d t ∷ []) holds)
 
--- what a slice of the whole leaves of the list
-pub seam : (n : ℕ) (xs ys : List Told) → length xs ≡ n → length ys ≡ n → take n (xs ++ drop (length xs) ys) ≡ xs
-seam n xs ys long whole =
-    ap (λ (zs : List Told). take n (xs ++ zs)) (drop_all (length xs) ys (omega (arith, long, whole)))
-    ∙ ap (take n) (append-nil xs) ∙ take_all n xs (omega (arith, long))
+  pub skipped_as : same ≡ true → ys ≡ cs → Merged before after left right ys
+  skipped_as one e = moved cs (merged_skipped before after l m cs d (sym least ∙ is) so_far (alike ∙ one)) e
 
-pub told_then : (old seen grown slice new full : List Told) (S : State) (count : ℕ) (cs ds : List Change) → seen ≡ old → slice ≡ grown →
-    ds ≡ cs → AreChanges (told_at seen) S count cs → length old ≤ count → length S.descriptions ≤ count →
-    ((d : ℕ) → told_at grown d ≡ told_at old d) → Notes slice ds new → full ≡ new → (d : ℕ) → told_at full d ≡ told S d
-told_then old seen grown slice new full S count cs ds first lent shown are long made same notes whole d =
-    let changes : AreChanges (told_at old) S count cs = subst (λ (l : List Told). AreChanges (told_at l) S count cs) first are in
-    let noted : Notes grown cs new =
-    subst (λ (l : List Change). Notes grown l new) shown (subst (λ (l : List Told). Notes l ds new) lent notes) in
-    ap (λ (l : List Told). told_at l d) whole
-    ∙ told_now old grown new S cs changes.new (has_each old S count cs long made changes) same noted d
+module _ (S : State) (ids : List ℕ) (all : List Change) (i : ℕ) (lists : Lists S.descriptions ids)
+    (is : all ≡ map (change_of S) (take i ids)) (past : length ids ≤ i) where
+  each_id : all ≡ map (change_of S) ids
+  each_id = is ∙ ap (map (change_of S)) (take_all i ids past)
+
+  pub told_all : (d : ℕ) → told_at all d ≡ told S d
+  told_all d = ap (λ (l : List Change). told_at l d) each_id ∙ told_listed S ids lists d
+
+  pub all_rises : IsFrom 0 all
+  all_rises = subst (IsFrom 0) (sym each_id) (listed_rises S ids lists)

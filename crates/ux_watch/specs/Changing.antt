@@ -1,14 +1,15 @@
 -- What has changed since it was told.
-use Rattle.std.specs.Prelude.{◌≡◌, ◌≢◌, ℕ, ◌<◌, List, Some, slice_index_or}
+use Rattle.std.specs.Prelude.{◌≡◌, ◌≢◌, ℕ, ◌+◌, ◌<◌, ◌≤◌, ◌==◌, nat_lt, if◌then◌else◌, List, [], ◌∷◌, Option, Some, None}
 use Rattle.std.specs.List.{slice_get}
 use Rattle.ux_model.specs.State.{State}
 use Rattle.ux_watch.specs.declared.told.Told.{Told}
 use Rattle.ux_watch.specs.declared.watch.Change.{Change}
 use Rattle.ux_watch.specs.Telling.{told, gone}
 
--- what a list by number says of every number
-abbrev pub told_at : List Told → ℕ → Told
-told_at last d = slice_index_or last d gone
+-- what a list says of every number: of one that isn't in it, what holds of a description that isn't there
+abbrev pub told_at : List Change → ℕ → Told
+told_at [] d = gone
+told_at (c ∷ rest) d = if c.id == d then c.now else told_at rest d
 
 -- what is told of a description now
 abbrev pub change_of : State → ℕ → Change
@@ -29,18 +30,32 @@ abbrev pub AreRising : List Change → Type 0
 AreRising changes =
     (i l : ℕ) (a b : Change) → i < l → slice_get changes i ≡ Some a → slice_get changes l ≡ Some b → a.id < b.id
 
--- each is of a number below this one
-abbrev pub AreBelow : ℕ → List Change → Type 0
-AreBelow count changes = (i : ℕ) (c : Change) → slice_get changes i ≡ Some c → c.id < count
+-- ---- of two lists
 
--- so it is of the descriptions below a number
-pub record AreChanges (last : ℕ → Told) (S : State) (count : ℕ) (changes : List Change) : Type 0 where
-  pub new : AreNew last S changes
-  pub each : (d : ℕ) → d < count → last d ≢ told S d → (i : ℕ) × (slice_get changes i ≡ Some (change_of S d))
+-- the numbers rise, from this one on
+abbrev pub IsFrom : ℕ → List Change → Type 0
+IsFrom n [] = Unit {0}
+IsFrom n (c ∷ rest) = (n ≤ c.id) × IsFrom (c.id + 1) rest
+
+-- so one list of what is told has become the other
+pub record AreChanges (before after : ℕ → Told) (changes : List Change) : Type 0 where
+  pub new : (i : ℕ) (c : Change) → slice_get changes i ≡ Some c → (c.now ≡ after c.id) × (before c.id ≢ after c.id)
+  pub each : (d : ℕ) → before d ≢ after d → (i : ℕ) × (slice_get changes i ≡ Some (record { id = d; now = after d }))
   pub rising : AreRising changes
-  pub below : AreBelow count changes
 
--- each of these is told, and of every other number what was told before
-pub record Notes (old : List Told) (changes : List Change) (new : List Told) : Type 0 where
-  pub told : (i : ℕ) (c : Change) → slice_get changes i ≡ Some c → told_at new c.id ≡ c.now
-  pub other : (d : ℕ) → ((i : ℕ) (c : Change) → slice_get changes i ≡ Some c → c.id ≢ d) → told_at new d ≡ told_at old d
+-- the lower of the first numbers
+abbrev pub lower : List Change → List Change → Option ℕ
+lower [] [] = None
+lower [] (b ∷ ys) = Some b.id
+lower (a ∷ xs) [] = Some a.id
+lower (a ∷ xs) (b ∷ ys) = Some (if nat_lt b.id a.id then b.id else a.id)
+
+-- what the first says, where it is of this number
+abbrev pub first_at : List Change → ℕ → Told
+first_at [] d = gone
+first_at (c ∷ rest) d = if c.id == d then c.now else gone
+
+-- the list without the first, where that is of this number
+abbrev pub without : List Change → ℕ → List Change
+without [] d = []
+without (c ∷ rest) d = if c.id == d then rest else c ∷ rest

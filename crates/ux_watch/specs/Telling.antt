@@ -1,6 +1,5 @@
 -- What a supervisor is told of a description: what poll(2) reports of it, and what is unread at its socket (ioctl(2), FIONREAD).
 use Rattle.std.specs.Prelude.{ℕ, Bool, ◌==◌, ◌&&◌, List, [], length, Option, Some, None}
-use Rattle.std.specs.List.{slice_get}
 use Rattle.ux_model.specs.Message.{Message, queued_bytes}
 use Rattle.ux_model.specs.Socket.{Socket}
 use Rattle.ux_model.specs.State.{State, socket_at}
@@ -22,11 +21,3 @@ gone = record { flags = not_open; bytes = 0; messages = 0 }
 
 abbrev pub is_same : Told → Told → Bool
 is_same a b = (a.flags.0 == b.flags.0) && ((a.bytes == b.bytes) && (a.messages == b.messages))
-
-abbrev pub bytes_of : Option Message → ℕ
-bytes_of None = 0
-bytes_of (Some m) = length m.bytes
-
--- the bytes of the message at this place, if there is one
-abbrev pub bytes_at : List Message → ℕ → ℕ
-bytes_at queue i = bytes_of (slice_get queue i)

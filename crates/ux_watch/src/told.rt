@@ -1,9 +1,7 @@
 //! What a supervisor is told of one description.
 ghost use Rattle.std.specs.Prelude.{◌≡◌};
-ghost use Rattle.ux_model.specs.Message.{queued_bytes};
 ghost use Rattle.ux_watch.specs.Telling as telling;
 
-use ux_description::Socket;
 use ux_object::FileObject;
 use ux_ready::readiness;
 use ux_state::State;
@@ -46,7 +44,7 @@ pub fn tell<O: FileObject>(state: &State<O>, id: DescriptionId) -> Told
     match state.socket(id) {
         Some(socket) => Told {
             flags,
-            bytes: unread_bytes(socket),
+            bytes: socket.queued_bytes() as u128,
             messages: socket.message_count(),
         },
         None => Told {
@@ -54,27 +52,5 @@ pub fn tell<O: FileObject>(state: &State<O>, id: DescriptionId) -> Told
             bytes: 0,
             messages: 0,
         },
-    }
-}
-
-/// How many bytes wait in the queue of a socket.
-#[tactic(auto, using(crate::proofs::Unread::one_more))]
-fn unread_bytes(socket: &Socket) -> u128
-    ensures { result ≡ queued_bytes socket.now.queue }
-{
-    let mut bytes: u128 = 0;
-    for index in 0..socket.message_count() {
-        bytes += message_bytes(socket, index) as u128;
-    }
-    bytes
-}
-
-/// How many bytes of the message at this place wait.
-fn message_bytes(socket: &Socket, index: usize) -> usize
-    ensures { result ≡ telling.bytes_at socket.now.queue index }
-{
-    match socket.message(index) {
-        Some(unread) => unread.len,
-        None => 0,
     }
 }

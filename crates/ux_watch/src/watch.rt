@@ -1,7 +1,7 @@
 //! What was told last, and what has changed since.
-ghost use Rattle.std.specs.Prelude.{◌≡◌, ◌≤◌, ℕ, length, IfOk, OnOk, OnErr};
+ghost use Rattle.std.specs.Prelude.{◌≡◌, ℕ, IfOk, OnOk, OnErr};
 ghost use Rattle.ux_watch.specs.Telling as telling;
-ghost use Rattle.ux_watch.specs.Changing.{AreChanges, AreNew, HasEachNew, AreRising, AreBelow, Notes, told_at};
+ghost use Rattle.ux_watch.specs.Changing.{AreChanges, AreNew, HasEachNew, AreRising, IsFrom, told_at, first_at, without, lower};
 
 use crate::told::{Told, tell};
 use std::alloc::{AllocError, Global};
@@ -17,22 +17,25 @@ pub struct Change {
     pub now: Told,
 }
 
-/// What was told last of each description. Contracts see it as a list by the descriptions' numbers; of each further number it
-/// is what holds of one that isn't there (`told_at`).
+/// What was told last of each description. Contracts see what was told of those that were there, by rising number; of each
+/// further number it is what holds of one that isn't there (`told_at`).
 #[derive(Drop)]
 pub struct Watch {
     alloc: Global,
-    /// By number; what isn't there any more as what never was.
-    last: Vec<Told>,
+    /// Of the descriptions that were there, by rising number.
+    last: Vec<Change>,
 }
 
 impl Model for Watch {
     ghost use Rattle.std.specs.Prelude.{List};
-    ghost use Rattle.ux_watch.specs.declared.told.Told.{Told};
+    ghost use Rattle.ux_watch.specs.declared.watch.Change.{Change};
+    ghost use Rattle.ux_watch.specs.Changing.{IsFrom};
 
-    ghost Value = { List Told };
+    ghost Value = { List Change };
 
     ghost view = { λ w. w.last.items };
+
+    ghost invariant = { λ w. IsFrom 0 w.last.items };
 }
 
 impl Watch {
@@ -46,7 +49,8 @@ impl Watch {
         }
     }
 
-    /// What has changed in this state since the last call, rising by the descriptions' numbers. It is told then.
+    /// What has changed in this state since the last call, rising by the descriptions' numbers. It is told then. It looks at
+    /// the descriptions that are there, or were at the last call.
     ///
     /// # Errors
     ///
@@ -62,66 +66,82 @@ impl Watch {
         ensures told { OnOk result ((d : ℕ) → told_at self.new d ≡ telling.told state.now d) }
         ensures same { OnErr result ((d : ℕ) → told_at self.new d ≡ told_at self.old d) }
     {
-        let Ok(made) = usize::try_from(state.description_count()) else {
-            return Err(AllocError);
-        };
-        let count = made.max(self.last.len());
-        let changes = changes_below(self.alloc, &self.last, state, count)?;
-        reach(&mut self.last, count)?;
-        note(&mut self.last, &changes);
+        let now = tell_all(self.alloc, state)?;
+        let changes = changes_between(self.alloc, &self.last, &now)?;
+        self.last = now;
         Ok(changes)
     }
 }
 
-/// What has changed of the descriptions with numbers below this one.
-#[tactic(auto, using(crate::proofs::Changing::nothing))]
-fn changes_below<O: FileObject>(
+/// What holds of each description that is there, by rising number.
+fn tell_all<O: FileObject>(alloc: Global, state: &State<O>) -> Result<Vec<Change>, AllocError>
+    ensures told { IfOk result (λ all. (d : ℕ) → told_at all.items d ≡ telling.told state.now d) }
+    ensures rising { IfOk result (λ all. IsFrom 0 all.items) }
+{
+    let ids = state.description_ids(alloc)?;
+    let mut all = Vec::with_capacity(alloc, ids.len())?;
+    for i in 0..ids.len() {
+        let id = ids[i];
+        all.push(Change {
+            id,
+            now: tell(state, id),
+        })?;
+    }
+    Ok(all)
+}
+
+/// What is told of another way than before, where each of both is by rising number.
+fn changes_between(
     alloc: Global,
-    last: &[Told],
-    state: &State<O>,
-    count: usize,
+    before: &[Change],
+    now: &[Change],
 ) -> Result<Vec<Change>, AllocError>
-    ensures { IfOk result (λ changes. AreChanges (told_at last.now) state.now count changes.items) }
+    requires before { IsFrom 0 before.now }
+    requires now { IsFrom 0 now.now }
+    ensures { IfOk result (λ changes. AreChanges (told_at before.now) (told_at now.now) changes.items) }
 {
     let mut changes = Vec::new(alloc);
-    for number in 0..count {
-        let id = DescriptionId::new(number as u128);
-        let now = tell(state, id);
-        if !now.is_same(last_of(last, number)) {
-            changes.push(Change { id, now })?;
+    let mut old = before;
+    let mut new = now;
+    while let Some(id) = lower(old, new) {
+        let told = first_at(new, id);
+        if !told.is_same(first_at(old, id)) {
+            changes.push(Change { id, now: told })?;
         }
+        old = without(old, id);
+        new = without(new, id);
     }
     Ok(changes)
 }
 
-/// What was told last of the description with this number.
-fn last_of(last: &[Told], number: usize) -> Told
-    ensures { result ≡ told_at last.now number }
+/// The lower of the first numbers of the two.
+fn lower(old: &[Change], new: &[Change]) -> Option<DescriptionId>
+    ensures { result ≡ lower old.now new.now }
 {
-    match last.get(number) {
-        Some(told) => *told,
-        None => Told::GONE,
+    match (old.first(), new.first()) {
+        (Some(one), Some(other)) if other.id.number() < one.id.number() => Some(other.id),
+        (Some(one), _) => Some(one.id),
+        (None, Some(other)) => Some(other.id),
+        (None, None) => None,
     }
 }
 
-/// Lets there be a place for each number below this one.
-fn reach(last: &mut Vec<Told>, count: usize) -> Result<(), AllocError>
-    ensures within { OnOk result (count ≤ length last.new.items) }
-    ensures same { (d : ℕ) → told_at last.new.items d ≡ told_at last.old.items d }
+/// What the first says, where it is of this description.
+fn first_at(list: &[Change], id: DescriptionId) -> Told
+    ensures { result ≡ first_at list.now id }
 {
-    while last.len() < count {
-        last.push(Told::GONE)?;
+    match list.first() {
+        Some(first) if first.id == id => first.now,
+        _ => Told::GONE,
     }
-    Ok(())
 }
 
-/// Notes what is told now.
-fn note(last: &mut [Told], changes: &[Change])
-    requires within { AreBelow (length last.old) changes.now }
-    requires rising { AreRising changes.now }
-    ensures { Notes last.old changes.now last.new }
+/// The same without the first, where that is of this description.
+fn without(list: &[Change], id: DescriptionId) -> &[Change]
+    ensures { result.now ≡ without list.now id }
 {
-    for change in changes {
-        last[change.id.number() as usize] = change.now;
+    match list.first() {
+        Some(first) if first.id == id => &list[1..],
+        _ => list,
     }
 }
