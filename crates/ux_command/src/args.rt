@@ -1,5 +1,6 @@
 //! The command line.
 
+use crate::answers::{NOT_SEVERAL, allows_several, several_of, with_answers};
 use crate::forms::with_forms;
 use crate::orders::{LIMIT, NO_LIMIT, NO_ORDER, Orders, with_orders};
 use crate::point::{Point, number_of};
@@ -23,6 +24,10 @@ pub struct Args<'a> {
     pub echo: bool,
     /// Whether the answers are compared with those that the script's comments expect.
     pub expect: bool,
+    /// Whether it is told in TAP, the Test Anything Protocol, of which scripts that holds.
+    pub tap: bool,
+    /// Whether the answers are written into the scripts.
+    pub update: bool,
     /// When the open descriptors are printed, each with the chain of processes that passed it.
     pub audit: Option<Point>,
     /// When it is printed who holds what.
@@ -45,7 +50,7 @@ pub struct Args<'a> {
     pub progress: bool,
     /// A path, or `-` for standard input.
     pub script: &'a str,
-    /// The scripts, where there are several: of each it is told whether its answers are those that it expects.
+    /// The scripts, where each is told of by itself: whether its answers are those that it expects, or that they were written.
     pub several: Option<Vec<&'a str>>,
 }
 
@@ -80,15 +85,15 @@ fn command_of<'a>(alloc: Global) -> Result<Command<'a>, AllocError> {
         .required(true)
         .num_args(1..)
         .action(ArgAction::Set)
-        .help("The script's path, or - for standard input; with --expect several");
+        .help("The script's path, or - for standard input; with --expect or --update several");
     let command = Command::new(alloc, "uxrun")
         .about("Runs a script of socket calls and prints its trace")
         .version(VERSION)
         .arg(switch(alloc, "threads", THREADS))?
         .arg(switch(alloc, "echo", ECHO))?
-        .arg(switch(alloc, "expect", EXPECT))?
         .arg(switch(alloc, "check", CHECK))?
         .arg(script)?;
+    let command = with_answers(alloc, command)?;
     let command = with_orders(alloc, with_views(alloc, command)?)?;
     with_forms(alloc, command)
 }
@@ -125,6 +130,8 @@ pub fn read_args<'a>(alloc: Global, words: &'a [String]) -> Result<Args<'a>, Err
         check: matches.get_flag("check"),
         echo: matches.get_flag("echo"),
         expect: matches.get_flag("expect"),
+        tap: matches.get_flag("tap"),
+        update: matches.get_flag("update"),
         audit,
         holders,
         dot,
@@ -138,35 +145,6 @@ pub fn read_args<'a>(alloc: Global, words: &'a [String]) -> Result<Args<'a>, Err
         script: matches.get_str("SCRIPT").unwrap_or("-"),
         several,
     })
-}
-
-/// Why several scripts aren't taken.
-const NOT_SEVERAL: &str = "several scripts go with --expect, and besides it with --threads alone";
-
-/// The scripts, where there are several.
-fn several_of<'a>(
-    alloc: Global,
-    matches: &ArgMatches<'a>,
-) -> Result<Option<Vec<&'a str>>, AllocError> {
-    match matches.get_strs("SCRIPT") {
-        Some(names) if names.len() > 1 => Ok(Some(Vec::from_slice(alloc, names)?)),
-        _ => Ok(None),
-    }
-}
-
-/// Whether the options are those that go with several scripts.
-fn allows_several(matches: &ArgMatches<'_>) -> bool {
-    let prints = matches.get_flag("echo")
-        || matches.get_flag("json")
-        || matches.get_flag("sequence");
-    let views = matches.get_str("audit").is_some()
-        || matches.get_str("holders").is_some()
-        || matches.get_str("dot").is_some()
-        || matches.get_str("html").is_some();
-    let runs = matches.get_flag("check")
-        || matches.get_flag("orders")
-        || matches.get_flag("follow");
-    matches.get_flag("expect") && !prints && !views && !runs
 }
 
 /// The options with a value.
@@ -198,8 +176,6 @@ const THREADS: &str =
     "Makes the calls of each process in a thread of its own, where they wait if they have to";
 
 const ECHO: &str = "Prints each call with its line and its arguments, instead of the trace";
-
-const EXPECT: &str = "Compares the replies with those that comments expect: #= REPLY behind a call";
 
 const CHECK: &str = "Makes the calls of the trace once more, on a second kernel, and compares";
 

@@ -47,6 +47,9 @@ pub enum CommandFault {
     /// The file for the page can't be written.
     #[error("page not written")]
     Page,
+    /// A script's answers can't be written into it.
+    #[error("replies not written")]
+    Update,
 }
 
 impl From<ScriptFault> for CommandFault {

@@ -1,6 +1,7 @@
 //! The command line of `uxrun`, and why it prints no whole trace.
 #![tactic(auto)]
 
+mod answers;
 mod args;
 mod fault;
 mod forms;

@@ -46,6 +46,14 @@ impl Source {
         }
     }
 
+    /// What was read, where it was kept: of a script of at most 64 MiB, as long as there was memory.
+    pub fn text(&self) -> Option<&[u8]> {
+        match &self.text {
+            Some(text) => Some(text.as_slice()),
+            None => None,
+        }
+    }
+
     /// Keeps a further line.
     pub fn add_line(&mut self, line: &[u8]) {
         self.keep(line);

@@ -123,6 +123,30 @@ fn several_scripts_go_with_what_is_expected(rt: HostRuntime) -> Result<(), Fail>
 }
 
 #[test]
+fn one_script_is_told_of_by_itself_too(rt: HostRuntime) -> Result<(), Fail> {
+    for (options, tap, update) in [
+        (["--expect", "--tap"].as_slice(), true, false),
+        (["--update"].as_slice(), false, true),
+    ] {
+        let mut words = texts(rt.alloc(), &["uxrun"])?;
+        words.extend(texts(rt.alloc(), options)?)?;
+        words.push(String::from_str(rt.alloc(), "a.ux")?)?;
+        let Ok(args) = read_args(rt.alloc(), words.as_slice()) else {
+            return Err(Fail::from("not understood"));
+        };
+        assert!(rt; args.tap == tap && args.update == update);
+        let several = args.several.ok_or("none")?;
+        assert_eq!(rt; several.as_slice(), ["a.ux"].as_slice());
+    }
+    let words = texts(rt.alloc(), &["uxrun", "--tap", "a.ux"])?;
+    let reported = read_args(rt.alloc(), words.as_slice())
+        .err()
+        .ok_or("understood")?;
+    assert!(rt; reported.kind() == ErrorKind::MissingRequiredArgument);
+    Ok(())
+}
+
+#[test]
 fn a_page_is_written_besides(rt: HostRuntime) -> Result<(), Fail> {
     let words = texts(
         rt.alloc(),
@@ -328,6 +352,7 @@ fn faults_have_their_texts(rt: HostRuntime) -> Result<(), Fail> {
         ),
         (CommandFault::Limit, "not all orders were made"),
         (CommandFault::Page, "page not written"),
+        (CommandFault::Update, "replies not written"),
         (CommandFault::NoCall(3), "line 3 makes no call"),
         (CommandFault::LeftOut(2), "left out 2 of the lines"),
     ];
@@ -370,6 +395,12 @@ const EXCLUDING: &[[&str; 2]] = &[
     ["--follow", "--sequence"],
     ["--json", "--dot=1"],
     ["--json", "--sequence"],
+    ["--update", "--threads"],
+    ["--update", "--order=7"],
+    ["--update", "--orders"],
+    ["--update", "--expect"],
+    ["--update", "--check"],
+    ["--update", "--html=a"],
 ];
 
 #[test]

@@ -20,3 +20,5 @@ mod metering;
 mod serial;
 #[cfg(test)]
 mod threads;
+#[cfg(test)]
+mod updating;

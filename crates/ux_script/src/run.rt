@@ -259,7 +259,11 @@ fn make_exits<W: BookName, O: FileObject>(
 
 /// Makes the call of a line. It is a stranger's where its process doesn't live, or where it asks for the layer's end. A
 /// fork that makes no process fails as out of memory.
-fn make_call<W: BookName, O: FileObject>(
+///
+/// # Errors
+///
+/// `Stranger`, and `NoMemory`.
+pub fn make_call<W: BookName, O: FileObject>(
     serial: &mut Serial<W, O>,
     pid: Pid,
     request: &Request,

@@ -13,6 +13,8 @@ mod progress;
 mod reading;
 mod runs;
 mod several;
+mod tap;
+mod updating;
 
 use audit::print_audit;
 use clap::Error;
@@ -25,7 +27,7 @@ use page::write_run;
 use printing::{print_comparison, print_run};
 use reading::script_of;
 use runs::{check_script, run_script};
-use several::expect_each;
+use several::{expect_each, tap_each};
 use std::io::IsTerminal;
 use std::process::ExitCode;
 use std::random::RandomSource;
@@ -33,6 +35,7 @@ use std::rt::{Clock, Files};
 use std::sync::Wait;
 use std::thread::Threads;
 use std::{env, io};
+use updating::update_each;
 use ux_command::{Args, CommandFault, Meter, Source, read_args};
 use ux_json::check_value;
 use ux_syntax::{Expectation, Script, ScriptFault};
@@ -52,7 +55,7 @@ fn run<
         return follow_script(rt, args, source);
     }
     if let Some(names) = args.several.take() {
-        return expect_each(rt, args, &names);
+        return run_each(rt, args, &names);
     }
     let (script, expected) = script_of(rt, args, source)?;
     if script.serial && (args.order.is_some() || args.orders.is_some()) {
@@ -65,6 +68,20 @@ fn run<
     let history = history_of(rt, args, &script, &expected)?;
     print_run(rt, args, &script, &expected, &history)?;
     print_rest(rt, args, &script, history)
+}
+
+/// Runs each of these scripts: writes its answers into it, or tells whether they are those that it expects.
+fn run_each<
+    'a,
+    R: Files + Input + Threads + Wait + Clock + Print + Eprint + RandomSource + AllocGlobal + Sync,
+>(rt: &R, args: &mut Args<'a>, names: &[&'a str]) -> Result<(), CommandFault> {
+    if args.update {
+        return update_each(rt, args, names);
+    }
+    if args.tap {
+        return tap_each(rt, args, names);
+    }
+    expect_each(rt, args, names)
 }
 
 /// Prints what stands behind the trace: makes the calls once more, and reports who holds which descriptor, where it is

@@ -47,7 +47,7 @@ fn read_named<R: Read>(
     args: &Args<'_>,
     reader: &mut R,
 ) -> Result<(Script, Vec<Expectation>), ScriptFault> {
-    if !args.expect {
+    if !args.expect && !args.update {
         let script = read_script(alloc, reader)?;
         return Ok((script, Vec::new(alloc)));
     }

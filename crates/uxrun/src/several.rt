@@ -3,6 +3,7 @@
 use crate::orders::Made;
 use crate::reading::script_of;
 use crate::run_as_asked;
+use crate::tap::{tell_plan, tell_point};
 use std::alloc::Global;
 use std::io;
 use std::random::RandomSource;
@@ -15,11 +16,21 @@ use ux_syntax::ScriptFault;
 
 /// What a script's answers came to, beside those that it expects.
 #[derive(Drop)]
-struct Compared {
+pub struct Compared {
     /// How many are expected.
-    count: usize,
+    pub count: usize,
     /// What is told of those that differ, a line each.
-    differing: Vec<u8>,
+    pub differing: Vec<u8>,
+}
+
+impl Compared {
+    /// Whether the script was run, and none of its answers differs.
+    pub fn is_expected(found: &Result<Compared, CommandFault>) -> bool {
+        match found {
+            Ok(compared) => compared.differing.is_empty(),
+            Err(_) => false,
+        }
+    }
 }
 
 /// Runs the script that the arguments name, and compares its answers.
@@ -69,6 +80,32 @@ fn tell<R: Print + AllocGlobal>(
     }
 }
 
+/// Why not all scripts answer as expected, where they don't.
+fn summed_up(as_expected: usize, count: usize) -> Result<(), CommandFault> {
+    if as_expected < count {
+        return Err(CommandFault::Unexpected);
+    }
+    Ok(())
+}
+
+/// Runs each of these scripts, and tells in TAP whether its answers are those that it expects.
+pub fn tap_each<
+    'a,
+    R: Files + Input + Threads + Wait + Clock + Print + Eprint + RandomSource + AllocGlobal + Sync,
+>(rt: &R, args: &mut Args<'a>, names: &[&'a str]) -> Result<(), CommandFault> {
+    tell_plan(rt, names.len())?;
+    let mut as_expected: usize = 0;
+    for (place, name) in names.iter().enumerate() {
+        let mut source = Source::new(rt.alloc());
+        args.script = *name;
+        let found = compare(rt, args, &mut source);
+        if tell_point(rt, place.saturating_add(1), name, &source, &found)? {
+            as_expected = as_expected.saturating_add(1);
+        }
+    }
+    summed_up(as_expected, names.len())
+}
+
 /// Runs each of these scripts, tells whether its answers are those that it expects, and at last of how many they are.
 pub fn expect_each<
     'a,
@@ -87,8 +124,5 @@ pub fn expect_each<
     println!(rt; "{as_expected} of {count} scripts answer as expected").map_err(
         |_| ScriptFault::Writing,
     )?;
-    if as_expected < count {
-        return Err(CommandFault::Unexpected);
-    }
-    Ok(())
+    summed_up(as_expected, count)
 }
