@@ -1,9 +1,10 @@
 // A system call that a task of the program has begun, and what it comes to.
 #pragma once
 #include <linux/seccomp.h>
-#include <functional>
 #include <map>
+#include <set>
 #include "description.h"
+#include "task.h"
 
 struct Process;
 
@@ -29,30 +30,8 @@ struct Process {
     bool is_watched = false;                   // it has the filter that tells all of its calls
 };
 
-// What has to happen before a call that waits can go on.
-enum class Until { INPUT, OUTPUT, CHANGE, TIME };
-
-struct Call {
-    u64 id = 0;                                // of the notification
-    int listener = -1;                         // that told it
-    int task = 0;
-    Process *process = nullptr;
-    seccomp_data data{};
-    NumberRef number;                          // the socket, kept while the call lasts, also where another thread closes it
-    size_t done = 0;                           // bytes of a message that are through
-    unsigned messages = 0;                     // of sendmmsg and recvmmsg
-    std::string got;                           // of a receive that wants all
-    Description *on = nullptr;                 // who is waited for
-    Until until = Until::CHANGE;
-    double deadline = 0, retry = 0, begun = 0;
-    bool interrupted = false;                  // by a signal: it ends with what it has
-
-    int nr() const { return data.nr; }
-    int argument(int at) const { return (int)data.args[at]; }
-};
-
 struct Result {
-    enum Way { DONE, PASS, WAIT, LATER } way;  // PASS: the kernel makes it; LATER: a signal came between, and the rest follows it
+    enum Way { DONE, PASS } way;               // PASS: the kernel makes it
     long value = 0;
     int error = 0;
     bool raises_sigpipe = false;
@@ -62,15 +41,35 @@ inline Result fail(int error) { return {Result::DONE, 0, error}; }
 inline Result pass() { return {Result::PASS}; }
 inline Result answer_of(long value) { return value < 0 ? fail((int)-value) : done(value); }
 
-// Open files that a call gives to the program, and the rest of the call behind them.
+struct Call {
+    // ASKS: until the layer answers; PAUSES: for a time; GIVES: until the call comes again, as a signal has interrupted it;
+    // ENDED: until the result is fetched, which a signal has kept from it.
+    enum State { RUNS, ASKS, PAUSES, GIVES, ENDED };
+
+    u64 id = 0;                                // of the notification
+    int listener = -1;                         // that told it
+    int task = 0;
+    Process *process = nullptr;
+    seccomp_data data{};
+    NumberRef number;                          // the socket, kept while the call lasts, also where another thread closes it
+    State state = RUNS;
+    Task<Result> work;
+    std::coroutine_handle<> at;                // where it goes on
+    Reply reply;                               // with which it goes on
+    unsigned pending = 0;                      // the layer's call that it waits for
+    double deadline = 0, retry = 0, begun = 0;
+    bool interrupted = false;                  // by a signal: it ends with what it has
+    Result result{};
+
+    int nr() const { return data.nr; }
+    int argument(int at) const { return (int)data.args[at]; }
+    bool waits() const { return state == ASKS || state == PAUSES; }
+};
+
+// An open file that a call gives to the program.
 struct Gift {
     Ref file;
     int layer;
     bool closes_on_exec;
     int at = -1;                               // a certain number, or the lowest free one
-};
-struct Delivery {
-    std::vector<Gift> gifts;
-    std::vector<int> numbers;                  // of those that are there; errors below 0
-    std::function<Result(Call &, const std::vector<int> &)> finish;
 };

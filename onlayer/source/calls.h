@@ -19,7 +19,7 @@ void forget_path(World &world, Process &process, const std::string &word);
 
 struct Control {                               // what a send carries beside its bytes
     std::string word = "-";
-    std::vector<Ref> rights;
+    unsigned rights = 0;
     int error = 0;
 };
 Control read_control(World &world, Call &call, u64 at, size_t length);
@@ -34,48 +34,45 @@ int read_parts(const Call &call, u64 at, size_t count, Parts &parts);    // an e
 
 struct Got {                                   // what a receive came to
     std::string data, from = "-";
+    int error = 0;
     long n = 0;
     unsigned flags = 0;
     bool has_credentials = false;
     ucred credentials{};
-    std::vector<Gift> rights;
+    std::vector<int> rights;                   // the program's numbers
 };
 
 // Whether a message that goes over a socket outside of the layer has one of the layer's in it.
 bool passes_own_socket(World &world, Call &call);
-Result send_parts(World &world, Call &call, const Parts &parts, const Address &to, Control &control, unsigned flags);
-Result send_message(World &world, Call &call, u64 at, unsigned flags);
-// Receives, and goes on with `finish` when the rights are there.
-typedef std::function<Result(Call &, const Got &, const std::vector<int> &rights)> Receiver;
-Result receive(World &world, Call &call, size_t n, size_t space, unsigned flags, Receiver finish);
+Task<Got> receive(World &world, Call &call, size_t n, size_t space, unsigned flags);
 
 // ---- one function a call
 
-Result answer_socket(World &world, Call &call);
+Task<Result> answer_socket(World &world, Call &call);
 Result answer_bind(World &world, Call &call);
 Result answer_listen(World &world, Call &call);
-Result answer_connect(World &world, Call &call);
-Result answer_accept(World &world, Call &call);
+Task<Result> answer_connect(World &world, Call &call);
+Task<Result> answer_accept(World &world, Call &call);
 Result answer_shutdown(World &world, Call &call);
 Result answer_name(World &world, Call &call);
 Result answer_getsockopt(World &world, Call &call);
 Result answer_setsockopt(World &world, Call &call);
 Result answer_queue_size(World &world, Call &call);
-Result answer_write(World &world, Call &call);
-Result answer_sendmsg(World &world, Call &call);
-Result answer_sendmmsg(World &world, Call &call);
-Result answer_read(World &world, Call &call);
-Result answer_recvmsg(World &world, Call &call);
-Result answer_recvmmsg(World &world, Call &call);
-Result answer_sendfile(World &world, Call &call);
-Result answer_splice(World &world, Call &call);
+Task<Result> answer_write(World &world, Call &call);
+Task<Result> answer_sendmsg(World &world, Call &call);
+Task<Result> answer_sendmmsg(World &world, Call &call);
+Task<Result> answer_read(World &world, Call &call);
+Task<Result> answer_recvmsg(World &world, Call &call);
+Task<Result> answer_recvmmsg(World &world, Call &call);
+Task<Result> answer_sendfile(World &world, Call &call);
+Task<Result> answer_splice(World &world, Call &call);
 Result answer_close(World &world, Call &call);
 Result answer_close_range(World &world, Call &call);
-Result answer_dup(World &world, Call &call);
-Result answer_dup2(World &world, Call &call);
+Task<Result> answer_dup(World &world, Call &call);
+Task<Result> answer_dup2(World &world, Call &call);
 Result answer_prctl(World &world, Call &call);
 
 // The server is outside of the layer: the placeholder becomes a real socket.
 Result go_outside(World &world, Call &call);
-// A connection of two ends, the second of which waits at a listener.
-Ref join(World &world, Description *client, Description *listener);
+// A client has been connected: its placeholder, and the server's end, which the layer has made. Null where nothing waits at a listener.
+Ref join(World &world, Description &client, const Description *listener, const Reply &reply);

@@ -11,92 +11,104 @@
 #include "text.h"
 
 static const size_t PIECE = 65536;             // what one trip to the layer carries
+static const size_t MOST_SPLICED = 4096;       // bytes of one splice
 static const double PAUSE = 0.002;             // seconds until a pipe is looked at again
 
-// Sends bytes of onlayer's own: as those of the program, but for where they stand.
-static Reply send_bytes(World &world, Call &call, const std::string &bytes) {
-    Description *own = call.number->file.get(), *target = own->peer;
-    Reply reply = world.say(*call.process, "send " + text(call.number->layer) + " - " + hex(bytes) + " - -");
-    if (reply.ok() && target) world.arrived(own, *target, reply.number(1));
-    else if (reply.error != EAGAIN) world.touch(own), world.touch(target);
-    return reply;
+// Sends bytes of onlayer's own as those of the program, as soon as there is room for them.
+static Task<Reply> send_bytes(World &world, Call &call, const std::string &bytes, unsigned flags) {
+    std::string words = "send " + text(call.number->layer) + " - " + hex(bytes) + " - -";
+    return world.ask(call, std::move(words), flags, SO_SNDTIMEO);
 }
-static Result fail_to_copy(World &world, Call &call, int error) {
-    if (call.done) return done(call.done);
-    if (error == EAGAIN) return world.wait(call, call.number->file.get(), Until::OUTPUT, 0, SO_SNDTIMEO);
+static Result failed(const Call &call, int error) {
     Result result = fail(error);
     result.raises_sigpipe = error == EPIPE && call.number->file->is_stream();
     return result;
 }
 
-Result answer_sendfile(World &world, Call &call) {
+// The next bytes of a file, none at its end; an error below 0.
+static ssize_t read_piece(const File &source, off_t offset, size_t most, std::string &bytes) {
+    bytes.resize(std::min(most, PIECE));
+    ssize_t n = pread(source.get(), &bytes[0], bytes.size(), offset);
+    bytes.resize(std::max<ssize_t>(n, 0));
+    return n < 0 ? -errno : n;
+}
+
+Task<Result> answer_sendfile(World &world, Call &call) {
     File source = take_file(call.process->pid, call.argument(1));
-    if (!source) return fail(EBADF);
+    if (!source) co_return fail(EBADF);
     u64 offset_at = call.data.args[2];
     off_t offset = lseek(source.get(), 0, SEEK_CUR);
-    if (offset < 0) return fail(EINVAL);
-    if (offset_at && !read_value(call.task, offset_at, offset)) return fail(EFAULT);
-    size_t all = std::min<size_t>(call.data.args[3], 0x7ffff000);
+    if (offset < 0) co_return fail(EINVAL);
+    if (offset_at && !read_value(call.task, offset_at, offset)) co_return fail(EFAULT);
+    size_t all = std::min<size_t>(call.data.args[3], 0x7ffff000), copied = 0;
     int error = 0;
-    while (call.done < all) {
-        std::string bytes(std::min(all - call.done, PIECE), 0);
-        ssize_t n = pread(source.get(), &bytes[0], bytes.size(), offset);
-        if (n < 0) error = errno;
+    std::string bytes;
+    while (copied < all && !error) {
+        ssize_t n = read_piece(source, offset, all - copied, bytes);
+        if (n < 0) error = -n;
         if (n <= 0) break;
-        bytes.resize(n);
-        Reply reply = send_bytes(world, call, bytes);
-        if (reply.error) error = reply.error;
-        if (reply.error) break;
-        offset += reply.number(1), call.done += reply.number(1);
-        if (reply.number(1) < n) break;
+        Reply reply = co_await send_bytes(world, call, bytes, 0);
+        error = reply.error;
+        if (!error) offset += reply.number(1), copied += reply.number(1);
     }
     if (offset_at) write_value(call.task, offset_at, offset);
     else lseek(source.get(), offset, SEEK_SET);
-    return error ? fail_to_copy(world, call, error) : done(call.done);
+    co_return error && !copied ? failed(call, error) : done(copied);
 }
 
-static Result look_again(World &world, Call &call, unsigned flags) {
-    Result result = world.wait(call, call.number->file.get(), Until::TIME, flags & SPLICE_F_NONBLOCK ? MSG_DONTWAIT : 0, SO_RCVTIMEO);
-    call.retry = now() + PAUSE;
-    return result;
-}
-
-static Result splice_from_pipe(World &world, Call &call, File pipe, size_t all, unsigned flags) {
-    int waiting = 0;
-    pollfd end = {pipe.get(), POLLIN, 0};
-    poll(&end, 1, 0);
-    if (ioctl(pipe.get(), FIONREAD, &waiting)) return fail(EINVAL);
-    if (!waiting) return end.revents & POLLHUP ? done(0) : look_again(world, call, flags);
-    if (!(call.number->file->conditions & (OUT | HUP))) return world.wait(call, call.number->file.get(), Until::OUTPUT, 0, SO_SNDTIMEO);
-    std::string bytes(std::min<size_t>({all, (size_t)waiting, PIECE / 16}), 0);
-    ssize_t n = read(pipe.get(), &bytes[0], bytes.size());
-    if (n <= 0) return n ? fail(errno) : done(0);
-    bytes.resize(n);
-    Reply reply = send_bytes(world, call, bytes);
-    return reply.error ? fail_to_copy(world, call, reply.error) : done(reply.number(1));
-}
-
-static Result splice_to_pipe(World &world, Call &call, int pipe, size_t all, unsigned flags) {
-    File into = take_file(call.process->pid, pipe);
-    pollfd end = {into.get(), POLLOUT, 0};
-    int queued = 0;
-    if (!into || ioctl(into.get(), FIONREAD, &queued)) return fail(EINVAL);
-    if (poll(&end, 1, 0) <= 0) return look_again(world, call, flags);
-    size_t room = std::max(fcntl(into.get(), F_GETPIPE_SZ) - queued, 1);
-    auto target = std::make_shared<File>(std::move(into));
-    return receive(world, call, std::min({all, room, (size_t)4096}), 0, flags & SPLICE_F_NONBLOCK ? MSG_DONTWAIT : 0,
-                   [target](Call &, const Got &got, const std::vector<int> &) {
-                       return answer_of(got.n ? write(target->get(), got.data.data(), got.data.size()) : 0);
-                   });
-}
-
-Result answer_splice(World &world, Call &call) {
-    const auto &a = call.data.args;
-    if (a[1] || a[3]) return fail(ESPIPE);
-    if (NumberRef into = world.find_socket(call, (int)a[2])) {
-        File pipe = take_file(call.process->pid, (int)a[0]);
-        call.number = into;
-        return pipe ? splice_from_pipe(world, call, std::move(pipe), a[4], a[5]) : fail(EBADF);
+// How many bytes the pipe has, once it has some; 0 where nobody writes to it any more, an error below 0.
+static Task<int> await_pipe(World &world, Call &call, const File &pipe, unsigned flags) {
+    for (;;) {
+        int waiting = 0;
+        pollfd end = {pipe.get(), POLLIN, 0};
+        poll(&end, 1, 0);
+        if (ioctl(pipe.get(), FIONREAD, &waiting)) co_return -EINVAL;
+        if (waiting || end.revents & POLLHUP) co_return waiting;
+        if (int error = co_await world.pause(call, PAUSE, flags, SO_RCVTIMEO)) co_return -error;
     }
-    return splice_to_pipe(world, call, (int)a[2], a[4], a[5]);
+}
+
+static Task<Result> splice_from_pipe(World &world, Call &call, File pipe, size_t all, unsigned flags) {
+    int waiting = co_await await_pipe(world, call, pipe, flags);
+    if (waiting <= 0) co_return answer_of(waiting);
+    while (!call.number->file->has(OUT | HUP))
+        if (int error = co_await world.pause(call, PAUSE, flags, SO_SNDTIMEO)) co_return fail(error);
+    std::string bytes(std::min(std::min(all, (size_t)waiting), MOST_SPLICED), 0);
+    ssize_t n = read(pipe.get(), &bytes[0], bytes.size()), sent = 0;
+    if (n <= 0) co_return n ? fail(errno) : done(0);
+    bytes.resize(n);
+    while (sent < n) {                         // what was read is sent whole
+        std::string rest = bytes.substr(sent);
+        Reply reply = co_await send_bytes(world, call, rest, 0);
+        if (reply.error) co_return sent ? done(sent) : failed(call, reply.error);
+        sent += reply.number(1);
+    }
+    co_return done(sent);
+}
+
+static Task<Result> splice_to_pipe(World &world, Call &call, int number, size_t all, unsigned flags) {
+    File pipe = take_file(call.process->pid, number);
+    unsigned waits = flags & SPLICE_F_NONBLOCK ? MSG_DONTWAIT : 0;
+    pollfd end = {pipe.get(), POLLOUT, 0};
+    int queued = 0;
+    if (!pipe || ioctl(pipe.get(), FIONREAD, &queued)) co_return fail(EINVAL);
+    while (poll(&end, 1, 0) <= 0)
+        if (int error = co_await world.pause(call, PAUSE, waits, SO_RCVTIMEO)) co_return fail(error);
+    ioctl(pipe.get(), FIONREAD, &queued);
+    size_t room = std::max(fcntl(pipe.get(), F_GETPIPE_SZ) - queued, 1), most = std::min(std::min(all, room), MOST_SPLICED);
+    Got got = co_await receive(world, call, most, 0, waits);
+    if (got.error) co_return fail(got.error);
+    ssize_t n = got.n ? write(pipe.get(), got.data.data(), got.data.size()) : 0;
+    co_return n < 0 ? fail(errno) : done(n);
+}
+
+Task<Result> answer_splice(World &world, Call &call) {
+    const auto &a = call.data.args;
+    if (a[1] || a[3]) co_return fail(ESPIPE);
+    NumberRef into = world.find_socket(call, (int)a[2]);
+    if (!into) co_return co_await splice_to_pipe(world, call, (int)a[2], a[4], a[5]);
+    File pipe = take_file(call.process->pid, (int)a[0]);
+    call.number = std::move(into);
+    if (!pipe) co_return fail(EBADF);
+    co_return co_await splice_from_pipe(world, call, std::move(pipe), a[4], a[5] & SPLICE_F_NONBLOCK ? MSG_DONTWAIT : 0);
 }

@@ -146,7 +146,8 @@ void wake_at_once(int listener) { ioctl(listener, SECCOMP_IOCTL_NOTIF_SET_FLAGS,
 
 int start_program(const std::vector<char *> &command, File *listener) {
     Handshake *shake = (Handshake *)mmap(nullptr, sizeof(Handshake), PROT_READ | PROT_WRITE, MAP_SHARED | MAP_ANONYMOUS, -1, 0);
-    shake->installed = -1, shake->may_go = 0;
+    shake->installed = -1;
+    shake->may_go = 0;
     int child = fork();
     if (!child) execute(command, *shake, listener);
     while (shake->installed == -1) usleep(100);

@@ -4,9 +4,21 @@
 #include "calls.h"
 #include "text.h"
 
-typedef Result (*Answer)(World &, Call &);
+// How a call is answered: at once, or by work that may wait.
+struct Way {
+    Result (*now)(World &, Call &) = nullptr;
+    Task<Result> (*later)(World &, Call &) = nullptr;
 
-static const std::map<int, Answer> OF_SOCKETS = {
+    Way(Result (*answer)(World &, Call &)) : now(answer) {}
+    Way(Task<Result> (*answer)(World &, Call &)) : later(answer) {}
+    std::optional<Result> take(World &world, Call &call) const {
+        if (now) return now(world, call);
+        call.work = later(world, call);
+        return {};
+    }
+};
+
+static const std::map<int, Way> OF_SOCKETS = {
     {SYS_bind, answer_bind}, {SYS_listen, answer_listen}, {SYS_connect, answer_connect}, {SYS_accept, answer_accept},
     {SYS_accept4, answer_accept}, {SYS_shutdown, answer_shutdown}, {SYS_getsockname, answer_name}, {SYS_getpeername, answer_name},
     {SYS_getsockopt, answer_getsockopt}, {SYS_setsockopt, answer_setsockopt}, {SYS_write, answer_write}, {SYS_writev, answer_write},
@@ -15,7 +27,7 @@ static const std::map<int, Answer> OF_SOCKETS = {
     {SYS_recvmsg, answer_recvmsg}, {SYS_recvmmsg, answer_recvmmsg}, {SYS_ioctl, answer_queue_size}, {SYS_sendfile, answer_sendfile},
     {SYS_splice, answer_splice}};
 
-static const std::map<int, Answer> OTHERS = {
+static const std::map<int, Way> OTHERS = {
     {SYS_socket, answer_socket}, {SYS_socketpair, answer_socket}, {SYS_close, answer_close}, {SYS_close_range, answer_close_range},
     {SYS_dup, answer_dup}, {SYS_dup2, answer_dup2}, {SYS_dup3, answer_dup2}, {SYS_prctl, answer_prctl}};
 
@@ -40,35 +52,38 @@ static Result answer_pidfd_getfd(World &world, Call &call) {
     return world.refuse(call, EPERM, "a socket of the layer can't be taken out of a process");
 }
 
-static Result of_other_file(World &world, Call &call) {
+static std::optional<Result> of_other_file(World &world, Call &call) {
     int number = call.argument(0);
-    if (call.nr() == SYS_splice && world.find_socket(call, call.argument(2))) return answer_splice(world, call);
+    if (call.nr() == SYS_splice && world.find_socket(call, call.argument(2))) {
+        call.work = answer_splice(world, call);
+        return {};
+    }
     if (call.nr() == SYS_sendmsg && passes_own_socket(world, call))
         return world.refuse(call, EINVAL, "a socket of the layer can't be passed over one of the kernel's");
     if (!call.process->closing.empty() && world.is_being_closed(call, number)) return fail(EBADF);
     return pass();
 }
 
-static Result of_socket(World &world, Call &call, Answer answer) {
-    bool is_new = !call.number;
-    if (is_new) call.number = world.find_socket(call, call.argument(0));
+static std::optional<Result> of_socket(World &world, Call &call, const Way &way) {
+    call.number = world.find_socket(call, call.argument(0));
     if (!call.number) return of_other_file(world, call);
     bool has_offset = call.nr() == SYS_preadv2 || call.nr() == SYS_pwritev2;
     if (has_offset && (long)call.data.args[3] != -1) return fail(ESPIPE);
-    if (is_new && !world.inherited.empty() && call.number->file->listening) note_use(world, call.number);
-    int error = is_new && !world.options.failures.empty() ? planned_failure(world, call) : 0;
-    if (error) world.counts.failed++;
-    if (error) world.layer->note("failed: " + call_name(call.nr()) + " by " + world.title(*call.process) + ", as asked, with " + errno_name(error));
-    return error ? fail(error) : answer(world, call);
+    if (!world.inherited.empty() && call.number->file->listening) note_use(world, call.number);
+    int error = world.options.failures.empty() ? 0 : planned_failure(world, call);
+    if (!error) return way.take(world, call);
+    world.counts.failed++;
+    world.layer->note("failed: " + call_name(call.nr()) + " by " + world.title(*call.process) + ", as asked, with " + errno_name(error));
+    return fail(error);
 }
 
-Result World::handle(Call &call) {
+std::optional<Result> World::handle(Call &call) {
     auto of_a_socket = OF_SOCKETS.find(call.nr());
     if (of_a_socket != OF_SOCKETS.end()) return of_socket(*this, call, of_a_socket->second);
     auto other = OTHERS.find(call.nr());
     if (other != OTHERS.end()) {
         call.process->changes++;
-        return other->second(*this, call);
+        return other->second.take(*this, call);
     }
     switch (call.nr()) {
     case SYS_setuid: case SYS_setgid: case SYS_setreuid: case SYS_setregid: case SYS_setresuid: case SYS_setresgid: case SYS_setgroups:

@@ -5,7 +5,6 @@
 #include <string.h>
 #include <unistd.h>
 #include <filesystem>
-#include "follow.h"
 #include "supervisor.h"
 #include "tell.h"
 #include "text.h"
@@ -27,11 +26,12 @@ static int run(Options &options) {
     if (!options.log.empty() && !tell_to(options.log)) throw Fault("can't write " + options.log + ": " + strerror(errno));
     bool keeps = !options.script.empty();
     options.script = std::filesystem::absolute(script_path(options));
+    options.uxserve = std::filesystem::absolute(options.uxserve);
     options.uxrun = std::filesystem::absolute(options.uxrun);
     std::string limit = text(options.table_limit);
     bool is_root = geteuid() == 0;
     std::string own = "proc " + text(geteuid()) + " " + text(getegid()) + (is_root ? " 1 " : " 0 ") + limit, guests = "proc 0 0 1 " + limit;
-    World world(std::make_unique<Follow>(options.uxrun, options.script, std::vector<std::string>{"serial", own, guests}), options);
+    World world(std::make_unique<Layer>(options.uxserve, options.script, std::vector<std::string>{"serial", own, guests}), options);
     world.outside = std::make_unique<Outside>(world);
     Supervisor supervisor(world);
     int status = supervisor.run();
@@ -42,7 +42,7 @@ static int run(Options &options) {
 // --orders: a program of its own runs onlayer again and again.
 [[noreturn]] static void run_orders(const Options &options) {
     std::string helper = options.own_path.substr(0, options.own_path.rfind('/')) + "/telling/orders.py";
-    std::vector<std::string> words = {"python3", helper, "--onlayer", options.own_path, "--uxrun", options.uxrun, "--count", text(options.orders)};
+    std::vector<std::string> words = {"python3", helper, "--onlayer", options.own_path, "--uxserve", options.uxserve, "--uxrun", options.uxrun, "--count", text(options.orders)};
     if (options.json) words.push_back("--json");
     if (options.queue_limit) words.push_back("--with=--qlimit=" + text(options.queue_limit));
     if (options.table_limit != 4096) words.push_back("--with=--nofile=" + text(options.table_limit));

@@ -15,11 +15,6 @@
 
 static const char *word_of(Kind kind) { return kind == STREAM ? "stream" : kind == DATAGRAM ? "dgram" : "seq"; }
 
-static void note_peers(Process &process, Description *one, Description *other) {
-    one->peer_pid = other->peer_pid = process.pid;
-    one->peer_groups = other->peer_groups = process.groups;
-}
-
 // Whether the program has so many numbers left below its limit: what was given can't be taken back.
 static bool has_room(const Call &call, unsigned count) {
     struct stat file;
@@ -32,42 +27,37 @@ static bool has_room(const Call &call, unsigned count) {
     return found == count;
 }
 
-static Result answer_pair(World &world, Call &call, Kind kind, unsigned flags) {
-    if (!has_room(call, 2)) return fail(EMFILE);
+static Task<Result> answer_pair(World &world, Call &call, Kind kind, unsigned flags) {
+    if (!has_room(call, 2)) co_return fail(EMFILE);
     Reply reply = world.say(*call.process, std::string("pair ") + word_of(kind) + " -");
-    if (reply.error) return fail(reply.error);
-    Ref ends[2] = {world.make(kind), world.make(kind)};
-    Delivery rest;
-    for (int i = 0; i < 2; i++) {
-        world.placeholders.make_pair(*ends[i], flags & SOCK_NONBLOCK);
-        ends[i]->connected = true;
-        ends[i]->lead_to(ends[1 - i].get());
-        rest.gifts.push_back({ends[i], (int)reply.number(1 + i), (flags & SOCK_CLOEXEC) != 0});
+    if (reply.error) co_return fail(reply.error);
+    std::vector<Gift> gifts;
+    for (const Lead &lead : reply.leads) {
+        Ref end = world.make(kind, lead.description);
+        world.placeholders.make_pair(*end, flags & SOCK_NONBLOCK);
+        end->peer_groups = call.process->groups;
+        gifts.push_back({end, lead.number, (flags & SOCK_CLOEXEC) != 0});
     }
-    note_peers(*call.process, ends[0].get(), ends[1].get());
-    rest.finish = [](Call &later, const std::vector<int> &numbers) {
-        for (int number : numbers)
-            if (number < 0) return fail(-number);
-        return write_memory(later.task, later.data.args[3], numbers.data(), 2 * sizeof(int)) ? done(0) : fail(EFAULT);
-    };
-    return world.deliver(call, std::move(rest));
+    std::vector<int> numbers = co_await world.deliver(call, std::move(gifts));
+    for (int number : numbers)
+        if (number < 0) co_return fail(-number);
+    co_return write_memory(call.task, call.data.args[3], numbers.data(), 2 * sizeof(int)) ? done(0) : fail(EFAULT);
 }
 
-Result answer_socket(World &world, Call &call) {
+Task<Result> answer_socket(World &world, Call &call) {
     int type = call.argument(1) & 0xf, flags = call.argument(1) & ~0xf, protocol = call.argument(2);
     if (type == SOCK_RAW) type = SOCK_DGRAM;   // as Linux has it
-    if ((type != STREAM && type != DATAGRAM && type != RECORDS) || (protocol != 0 && protocol != AF_UNIX)) return pass();
-    if (flags & ~(SOCK_NONBLOCK | SOCK_CLOEXEC)) return pass();
+    if ((type != STREAM && type != DATAGRAM && type != RECORDS) || (protocol != 0 && protocol != AF_UNIX)) co_return pass();
+    if (flags & ~(SOCK_NONBLOCK | SOCK_CLOEXEC)) co_return pass();
     Kind kind = (Kind)type;
-    if (call.nr() == SYS_socketpair) return answer_pair(world, call, kind, flags);
+    if (call.nr() == SYS_socketpair) co_return co_await answer_pair(world, call, kind, flags);
     Reply reply = world.say(*call.process, std::string("socket ") + word_of(kind) + " -");
-    if (reply.error) return fail(reply.error);
-    Ref made = world.make(kind);
+    if (reply.error) co_return fail(reply.error);
+    Ref made = world.make(kind, reply.description());
     world.placeholders.make_idle(*made, flags & SOCK_NONBLOCK);
-    Delivery rest;
-    rest.gifts.push_back({made, (int)reply.number(1), (flags & SOCK_CLOEXEC) != 0});
-    rest.finish = [](Call &, const std::vector<int> &numbers) { return answer_of(numbers[0]); };
-    return world.deliver(call, std::move(rest));
+    std::vector<Gift> gifts{{made, (int)reply.number(1), (flags & SOCK_CLOEXEC) != 0}};
+    std::vector<int> numbers = co_await world.deliver(call, std::move(gifts));
+    co_return answer_of(numbers[0]);
 }
 
 // ---- bind
@@ -84,7 +74,7 @@ static int bind_for_real(Call &call, Description &file, const std::string &sun_p
     if (has_own_root(call.task)) path = path.substr(path.rfind('/') + 1);
     if (fchdir(folder.get())) return errno;
     memcpy(name.sun_path, path.data(), std::min(path.size(), sizeof name.sun_path));
-    File gate(socket(AF_UNIX, file.kind | SOCK_CLOEXEC | SOCK_NONBLOCK, 0));
+    File gate(socket(AF_UNIX, (int)file.kind | SOCK_CLOEXEC | SOCK_NONBLOCK, 0));
     mode_t before = umask(status.mask);
     socklen_t length = offsetof(sockaddr_un, sun_path) + path.size() + (path.size() < sizeof name.sun_path);
     int error = bind(gate.get(), (sockaddr *)&name, length) ? errno : 0;
@@ -99,7 +89,7 @@ static int bind_abstract_for_real(World &world, Description &file, const std::st
     sockaddr_un name = {AF_UNIX, {}};
     std::string bytes = name_bytes(word.substr(2));
     memcpy(name.sun_path + 1, bytes.data(), std::min(bytes.size(), sizeof name.sun_path - 1));
-    File gate(socket(AF_UNIX, file.kind | SOCK_CLOEXEC | SOCK_NONBLOCK, 0));
+    File gate(socket(AF_UNIX, (int)file.kind | SOCK_CLOEXEC | SOCK_NONBLOCK, 0));
     if (bind(gate.get(), (sockaddr *)&name, offsetof(sockaddr_un, sun_path) + 1 + bytes.size())) return errno;
     file.gate = std::move(gate);
     return 0;
@@ -124,9 +114,11 @@ Result answer_bind(World &world, Call &call) {
     Address name = read_address(world, call, call.data.args[1], call.argument(2), true);
     if (!name.error) name.error = find_name(world, call, name);
     if (name.error) return fail(name.error);
-    Reply reply = world.say(*call.process, "bind " + text(call.number->layer) + " " + name.word);
-    if (reply.error) return fail(reply.error);
-    if (name.word == "u") name.word = world.say(*call.process, "sockname " + text(call.number->layer)).word(1);
+    std::vector<std::string> lines{"bind " + text(call.number->layer) + " " + name.word};
+    if (name.word == "u") lines.push_back("sockname " + text(call.number->layer));    // which name the layer has chosen
+    std::vector<Reply> replies = world.say_all(*call.process, lines);
+    if (replies[0].error) return fail(replies[0].error);
+    if (name.word == "u") name.word = replies[1].word(1);
     Description &own = *call.number->file;
     own.name = name.word;
     world.names.bind(name.word, &own);
@@ -147,7 +139,7 @@ Result answer_listen(World &world, Call &call) {
     own.listener = {call.process->pid, call.process->user, call.process->group}, own.listener_groups = call.process->groups;
     world.placeholders.listen(own);
     if (own.gate && !listen(own.gate.get(), 128)) world.outside->watch_gate(&own);
-    world.touch(&own);
+    world.touch(call.number->file);
     return done(0);
 }
 
@@ -165,15 +157,16 @@ static bool swap_for_gate(Call &call, Description &file) {
     return true;
 }
 
-static bool has_other_holders(const Call &call, const Description &file) {
-    for (const Holder &holder : file.holders)
-        if (holder.process != call.process->layer) return true;
+static bool has_other_holders(const World &world, const Call &call, const Description &file) {
+    for (auto &process : world.processes)
+        for (auto &[number, entry] : process->table)
+            if (process.get() != call.process && entry->file.get() == &file) return true;
     return false;
 }
 
 Result go_outside(World &world, Call &call) {
     Ref file = call.number->file;
-    if (file->gate && has_other_holders(call, *file))
+    if (file->gate && has_other_holders(world, call, *file))
         return world.refuse(call, ECONNREFUSED, "a bound socket that several processes have can't leave the layer");
     world.counts.outside++;
     world.layer->note("outside: " + world.title(*call.process) + " talks to a socket that isn't the layer's");
@@ -187,73 +180,55 @@ Result go_outside(World &world, Call &call) {
         std::vector<int> numbers;
         for (auto &[number, entry] : process->table)
             if (entry->file == file) numbers.push_back(number);
-        for (int number : numbers) world.drop(*process, number);
+        world.drop(*process, numbers);
     }
     return pass();
 }
 
-Ref join(World &world, Description *client, Description *listener) {
-    Ref end = world.make(client->kind);
-    end->lead_to(client), client->lead_to(end.get());
-    end->connected = client->connected = true;
-    client->peer_pid = listener->listener.pid, client->peer_groups = listener->listener_groups;
-    listener->pending.push_back(end);
-    world.placeholders.connect(*client);
-    world.touch(listener);
-    world.touch(client);
+Ref join(World &world, Description &client, const Description *listener, const Reply &reply) {
+    if (reply.made < 0) return nullptr;
+    Ref end = world.make(client.kind, reply.made);
+    end->is_server_end = true;
+    if (listener) client.peer_groups = listener->listener_groups;
+    world.placeholders.connect(client);
     return end;
 }
 
-Result answer_connect(World &world, Call &call) {
-    Description *own = call.number->file.get();
+Task<Result> answer_connect(World &world, Call &call) {
+    Ref own = call.number->file;
     Address to = read_address(world, call, call.data.args[1], call.argument(2), false);
-    if (to.error) return fail(to.error);
-    if (to.is_outside) return go_outside(world, call);
-    Reply reply = world.say(*call.process, "connect " + text(call.number->layer) + " " + to.word);
-    Description *target = world.names.socket_of(to.word);
-    if (reply.error == EAGAIN && target) return world.wait(call, target, Until::CHANGE, 0, SO_SNDTIMEO);
-    if (reply.error) return fail(reply.error);
-    if (own->kind == DATAGRAM) own->lead_to(to.word == "u" ? nullptr : target), world.touch(own);
-    else if (target) {
-        Ref end = join(world, own, target);
-        end->peer_pid = call.process->pid, end->peer_groups = call.process->groups;
-    }
-    return done(0);
+    if (to.error) co_return fail(to.error);
+    if (to.is_outside) co_return go_outside(world, call);
+    std::string words = "connect " + text(call.number->layer) + " " + to.word;
+    Reply reply = co_await world.ask(call, std::move(words), 0, SO_SNDTIMEO);
+    if (reply.error) co_return fail(reply.error);
+    Ref end = join(world, *own, world.names.socket_of(to.word), reply);
+    if (end) end->peer_groups = call.process->groups, world.touch(own);
+    co_return done(0);
 }
 
-Result answer_accept(World &world, Call &call) {
-    Description *own = call.number->file.get();
+Task<Result> answer_accept(World &world, Call &call) {
     unsigned flags = call.nr() == SYS_accept4 ? call.data.args[3] : 0;
-    if (own->listening && !has_room(call, 1)) return fail(EMFILE);
-    if (own->listening && own->pending.empty()) {
-        Result result = world.wait(call, own, Until::INPUT, 0, SO_RCVTIMEO);
-        if (result.way == Result::WAIT) return result;
-    }
-    Reply reply = world.say(*call.process, "accept " + text(call.number->layer) + " -");
-    if (reply.error == EAGAIN) return world.wait(call, own, Until::INPUT, 0, SO_RCVTIMEO);
-    if (reply.error) return fail(reply.error);
-    if (own->pending.empty()) throw Fault("the layer accepted a connection that nobody made");
-    Ref end = own->pending.front();
-    own->pending.pop_front();
+    if (call.number->file->listening && !has_room(call, 1)) co_return fail(EMFILE);
+    std::string words = "accept " + text(call.number->layer) + " -";
+    Reply reply = co_await world.ask(call, std::move(words), 0, SO_RCVTIMEO);
+    if (reply.error) co_return fail(reply.error);
+    auto found = world.files.find(reply.description());
+    if (found == world.files.end()) throw Fault("the layer accepted a connection that nobody made");
+    Ref end = found->second;
     world.placeholders.make_pair(*end, flags & SOCK_NONBLOCK);
-    world.touch(own);
-    Delivery rest;
-    rest.gifts.push_back({end, (int)reply.number(1), (flags & SOCK_CLOEXEC) != 0});
-    std::string client = address_bytes(world, reply.word(2));
-    rest.finish = [client](Call &later, const std::vector<int> &numbers) {
-        if (numbers[0] < 0) return fail(-numbers[0]);
-        return write_address(later, later.data.args[1], later.data.args[2], client) ? done(numbers[0]) : fail(EFAULT);
-    };
-    return world.deliver(call, std::move(rest));
+    world.touch(end);
+    std::string client = address_bytes(world, std::string(reply.word(2)));
+    std::vector<Gift> gifts{{end, (int)reply.number(1), (flags & SOCK_CLOEXEC) != 0}};
+    std::vector<int> numbers = co_await world.deliver(call, std::move(gifts));
+    if (numbers[0] < 0) co_return fail(-numbers[0]);
+    co_return write_address(call, call.data.args[1], call.data.args[2], client) ? done(numbers[0]) : fail(EFAULT);
 }
 
 Result answer_shutdown(World &world, Call &call) {
     static const char *const ways[] = {"r", "w", "rw"};
-    Description *own = call.number->file.get();
     if ((unsigned)call.argument(1) > 2) return fail(EINVAL);
     Reply reply = world.say(*call.process, "shut " + text(call.number->layer) + " " + ways[call.argument(1)]);
-    world.touch(own), world.touch(own->peer);
-    for (Description *follower : own->followers) world.touch(follower);
     return reply.error ? fail(reply.error) : done(0);
 }
 
@@ -261,5 +236,5 @@ Result answer_name(World &world, Call &call) {
     const char *word = call.nr() == SYS_getsockname ? "sockname " : "peername ";
     Reply reply = world.say(*call.process, word + text(call.number->layer));
     if (reply.error) return fail(reply.error);
-    return write_address(call, call.data.args[1], call.data.args[2], address_bytes(world, reply.word(1))) ? done(0) : fail(EFAULT);
+    return write_address(call, call.data.args[1], call.data.args[2], address_bytes(world, std::string(reply.word(1)))) ? done(0) : fail(EFAULT);
 }

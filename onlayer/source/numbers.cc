@@ -7,21 +7,21 @@
 #include <sys/stat.h>
 #include <sys/syscall.h>
 #include <unistd.h>
+#include <algorithm>
 #include "calls.h"
 #include "text.h"
 
-// The kernel closes it behind this; until then the number isn't the layer's, and mustn't be the kernel's either.
-static void close_number(World &world, Call &call, int number) {
+// The kernel closes them behind this; until then they aren't the layer's, and mustn't be the kernel's either.
+static void close_numbers(World &world, Call &call, std::vector<int> numbers) {
     struct stat file;
-    NumberRef entry = call.process->table[number];
-    if (call.process->tasks.size() > 1 && !fstat(entry->file->shown.get(), &file)) call.process->closing[number] = file.st_ino;
-    entry.reset();
-    world.drop(*call.process, number);
+    numbers.erase(std::remove_if(numbers.begin(), numbers.end(), [&](int number) { return !world.find(call, number); }), numbers.end());
+    for (int number : numbers)
+        if (call.process->tasks.size() > 1 && !fstat(call.process->table[number]->file->shown.get(), &file)) call.process->closing[number] = file.st_ino;
+    world.drop(*call.process, numbers);
 }
 
 Result answer_close(World &world, Call &call) {
-    int number = call.argument(0);
-    if (world.find(call, number)) close_number(world, call, number);
+    close_numbers(world, call, {call.argument(0)});
     return pass();
 }
 
@@ -31,20 +31,23 @@ Result answer_close_range(World &world, Call &call) {
     std::vector<int> numbers;
     for (auto &[number, entry] : call.process->table)
         if ((unsigned)number >= first && (unsigned)number <= last) numbers.push_back(number);
-    for (int number : numbers)
-        if (world.find(call, number)) close_number(world, call, number);
+    close_numbers(world, call, numbers);
     return pass();
 }
 
-Result answer_dup(World &world, Call &call) {
-    NumberRef entry = world.find(call, call.argument(0));
-    if (!entry) return pass();
+static Task<Result> copy_to(World &world, Call &call, NumberRef entry, bool closes_on_exec, int at) {
     Reply reply = world.say(*call.process, "dup " + text(entry->layer));
-    if (reply.error) return fail(reply.error);
-    Delivery rest;
-    rest.gifts.push_back({entry->file, (int)reply.number(1), false});
-    rest.finish = [](Call &, const std::vector<int> &numbers) { return answer_of(numbers[0]); };
-    return world.deliver(call, std::move(rest));
+    if (reply.error) co_return fail(reply.error);
+    std::vector<Gift> gifts{{entry->file, (int)reply.number(1), closes_on_exec, at}};
+    entry.reset();
+    std::vector<int> numbers = co_await world.deliver(call, std::move(gifts));
+    co_return answer_of(numbers[0]);
+}
+
+Task<Result> answer_dup(World &world, Call &call) {
+    NumberRef entry = world.find(call, call.argument(0));
+    if (!entry) co_return pass();
+    co_return co_await copy_to(world, call, std::move(entry), false, -1);
 }
 
 static bool is_below_limit(const Call &call, int number) {
@@ -52,24 +55,19 @@ static bool is_below_limit(const Call &call, int number) {
     return number >= 0 && !prlimit(call.process->pid, RLIMIT_NOFILE, nullptr, &limit) && (rlim_t)number < limit.rlim_cur;
 }
 
-Result answer_dup2(World &world, Call &call) {
+Task<Result> answer_dup2(World &world, Call &call) {
     int from = call.argument(0), to = call.argument(1);
     NumberRef entry = world.find(call, from);
-    if (from == to || !is_below_limit(call, to)) return pass();
+    if (from == to || !is_below_limit(call, to)) co_return pass();
     if (!entry) {
         struct stat file;
         bool is_open = !lstat(proc_path(call.task, "fd/" + text(from)).c_str(), &file);
-        if (is_open && world.find(call, to)) close_number(world, call, to);
-        return pass();
+        if (is_open) close_numbers(world, call, {to});
+        co_return pass();
     }
     unsigned flags = call.nr() == SYS_dup3 ? call.data.args[2] : 0;
-    if (flags & ~O_CLOEXEC) return fail(EINVAL);
-    Reply reply = world.say(*call.process, "dup " + text(entry->layer));
-    if (reply.error) return fail(reply.error);
-    Delivery rest;
-    rest.gifts.push_back({entry->file, (int)reply.number(1), flags != 0, to});
-    rest.finish = [](Call &, const std::vector<int> &numbers) { return answer_of(numbers[0]); };
-    return world.deliver(call, std::move(rest));
+    if (flags & ~O_CLOEXEC) co_return fail(EINVAL);
+    co_return co_await copy_to(world, call, std::move(entry), flags != 0, to);
 }
 
 // A process that hides could not be read or given descriptors by an ordinary user, so it only thinks that it does.

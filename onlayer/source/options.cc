@@ -13,7 +13,8 @@ static const char HELP[] =
     "\n"
     "Runs a command, and all that it starts, with their AF_UNIX sockets answered by the layer in place of the kernel.\n"
     "\n"
-    "  --uxrun PATH      the layer's program; else that of the variable UXRUN, or crates/uxrun/out/uxrun\n"
+    "  --uxserve PATH    the layer's program; else that of the variable UXSERVE, or crates/uxserve/out/uxserve\n"
+    "  --uxrun PATH      that which tells holders and audits; else that of the variable UXRUN, or crates/uxrun/out/uxrun\n"
     "  --qlimit N        a stream's queue takes N bytes, 1 to 1048576\n"
     "  --nofile N        a process has at most N descriptors in the layer, 1 to 4096\n"
     "  --fail C:N:E      the Nth call C of a socket fails with E, as in sendmsg:3:ENOMEM; may stand several times\n"
@@ -26,7 +27,6 @@ static const char HELP[] =
     "  --json            tells in JSON\n"
     "  --quiet           leaves out the paragraph at the end\n"
     "  --verbose         notes each call of the program in the script\n"
-    "  --look            asks the layer for readiness also where it follows from a reply, and ends where it is another\n"
     "  --help, --version\n"
     "\n"
     "The status is the command's, 128 and the signal's number where one ended it, 125 where onlayer itself fails, and 2 where\n"
@@ -72,19 +72,30 @@ static std::string own_path() {
 }
 static std::string folder_of(const std::string &path) { return path.substr(0, path.rfind('/')); }
 
-static void find_uxrun(Options &options) {
-    const char *named = getenv("UXRUN");
-    if (options.uxrun.empty()) options.uxrun = named && *named ? named : folder_of(folder_of(options.own_path)) + "/crates/uxrun/out/uxrun";
-    if (access(options.uxrun.c_str(), X_OK))
-        throw Fault("there is no uxrun at " + options.uxrun + ": build it (`cd crates/uxrun && rt run -- - < stdin`), or name one by the variable UXRUN");
+static void find_program(std::string &path, const std::string &own, const std::string &name, const char *variable) {
+    const char *named = getenv(variable);
+    if (path.empty()) path = named && *named ? named : folder_of(folder_of(own)) + "/crates/" + name + "/out/" + name;
+}
+static void must_be_there(const std::string &path, const std::string &name, const std::string &words, const std::string &variable) {
+    if (!access(path.c_str(), X_OK)) return;
+    throw Fault("there is no " + name + " at " + path + ": build it (`cd crates/" + name + " && rt run " + words + "< stdin`), or name one by the variable " + variable);
 }
 
-enum { QLIMIT = 256, NOFILE, FAIL, ORDER, ORDERS, SCRIPT, HOLDERS, AUDIT, LOG, JSON, QUIET, VERBOSE, LOOK, UXRUN, HELPS, VERSION };
+// uxrun is needed only where something is told of the whole run.
+static void find_programs(Options &options) {
+    bool tells = !options.holders.empty() || !options.audit.empty() || options.orders;
+    find_program(options.uxserve, options.own_path, "uxserve", "UXSERVE");
+    find_program(options.uxrun, options.own_path, "uxrun", "UXRUN");
+    must_be_there(options.uxserve, "uxserve", "", "UXSERVE");
+    if (tells) must_be_there(options.uxrun, "uxrun", "-- - ", "UXRUN");
+}
+
+enum { QLIMIT = 256, NOFILE, FAIL, ORDER, ORDERS, SCRIPT, HOLDERS, AUDIT, LOG, JSON, QUIET, VERBOSE, UXSERVE, UXRUN, HELPS, VERSION };
 
 static const option LONG_OPTIONS[] = {
     {"qlimit", 1, nullptr, QLIMIT}, {"nofile", 1, nullptr, NOFILE}, {"fail", 1, nullptr, FAIL}, {"order", 1, nullptr, ORDER},
     {"orders", 1, nullptr, ORDERS}, {"script", 1, nullptr, SCRIPT}, {"holders", 1, nullptr, HOLDERS}, {"audit", 1, nullptr, AUDIT},
-    {"log", 1, nullptr, LOG}, {"json", 0, nullptr, JSON}, {"quiet", 0, nullptr, QUIET}, {"verbose", 0, nullptr, VERBOSE}, {"look", 0, nullptr, LOOK},
+    {"log", 1, nullptr, LOG}, {"json", 0, nullptr, JSON}, {"quiet", 0, nullptr, QUIET}, {"verbose", 0, nullptr, VERBOSE}, {"uxserve", 1, nullptr, UXSERVE},
     {"uxrun", 1, nullptr, UXRUN}, {"help", 0, nullptr, HELPS}, {"version", 0, nullptr, VERSION}, {nullptr, 0, nullptr, 0}};
 
 static void take_option(Options &options, int option) {
@@ -101,7 +112,7 @@ static void take_option(Options &options, int option) {
     case JSON: options.json = true; break;
     case QUIET: options.quiet = true; break;
     case VERBOSE: options.verbose = true; break;
-    case LOOK: options.looks = true; break;
+    case UXSERVE: options.uxserve = optarg; break;
     case UXRUN: options.uxrun = optarg; break;
     case HELPS: fputs(HELP, stdout); exit(fflush(stdout) ? 125 : 0);
     case VERSION: puts("onlayer 0.4.0"); exit(fflush(stdout) ? 125 : 0);
@@ -120,6 +131,6 @@ Options read_options(int count, char **words) {
     if (optind >= count) leave("no command");
     options.command.assign(words + optind, words + count);
     options.command.push_back(nullptr);
-    find_uxrun(options);
+    find_programs(options);
     return options;
 }

@@ -11,11 +11,11 @@ struct Failure {                               // the Nth such call of a socket 
 };
 
 struct Options {
-    std::string uxrun, script, log, holders, audit, own_path;
+    std::string uxserve, uxrun, script, log, holders, audit, own_path;
     int queue_limit = 0, table_limit = 4096, orders = 0;
     std::optional<unsigned> order;
     std::vector<Failure> failures;
-    bool json = false, quiet = false, verbose = false, looks = false;
+    bool json = false, quiet = false, verbose = false;
     std::vector<char *> command;
 };
 

@@ -40,7 +40,7 @@ void Outside::forget_gate(Description *server) {
     epoll_ctl(events.get(), EPOLL_CTL_DEL, server->gate.get(), nullptr);    // the program may have it now
     gates.erase(server->gate.get());
     for (auto &[number, bridge] : bridges)
-        if (bridge->server == server) bridge->server = nullptr, bridge->has_left = true;
+        if (bridge->server == server) bridge->server = nullptr;    // the layer refuses the connect that waits
 }
 
 void Outside::handle_events() {
@@ -77,27 +77,24 @@ void Outside::admit(Description *server) {
     world.layer->note("process " + text(who.pid) + " is " + text(bridge->process) + " " + program_of(who.pid) + ", outside");
     Reply reply = world.layer->make(bridge->process, server->kind == STREAM ? "socket stream -" : "socket seq -");
     bridge->number = (int)reply.number(1);
-    bridge->file = world.make(server->kind);
-    bridge->file->holders.insert({bridge->process, bridge->number});
+    bridge->file = world.make(server->kind, reply.description());
     bridge->server = server;
     Bridge &made = *bridge;
     add_bridge(std::move(bridge));
-    if (knock(made)) carry(made);
+    knock(made);
 }
 
-// Whether the guest is connected now.
-bool Outside::knock(Bridge &bridge) {
-    Description *server = bridge.server;
-    Reply reply = world.layer->make(bridge.process, "connect " + text(bridge.number) + " " + server->name);
-    if (reply.error == EAGAIN) return false;
-    bridge.server = nullptr;
-    if (reply.error) {
-        leave(bridge);
-        return false;
-    }
-    Ref end = join(world, bridge.file.get(), server);
-    end->peer_pid = world.guest_pids[bridge.process];
-    return true;
+void Outside::knock(Bridge &bridge) {
+    std::string words = "connect " + text(bridge.number) + " " + bridge.server->name;
+    bridge.pending = world.pend(bridge.process, words, [this, &bridge](Reply reply) { enter(bridge, reply); });
+}
+
+void Outside::enter(Bridge &bridge, const Reply &reply) {
+    bridge.pending = 0;
+    Description *server = std::exchange(bridge.server, nullptr);
+    if (reply.error) return leave(bridge);
+    join(world, *bridge.file, server, reply);
+    carry(bridge);
 }
 
 static std::vector<File> files_of(msghdr &head) {
@@ -119,29 +116,20 @@ std::vector<std::pair<Ref, int>> Outside::hold_rights(int process, std::vector<F
     for (File &file : files) {
         int number;
         std::string what = link_of(getpid(), file.get());
-        if (Ref held = world.hold(process, std::move(file), what, number)) {
-            held->holders.insert({process, number});
-            rights.push_back({held, number});
-        }
+        if (Ref held = world.hold(process, std::move(file), what, number)) rights.push_back({held, number});
     }
     return rights;
 }
 void Outside::close_rights(int process, const std::vector<std::pair<Ref, int>> &rights) {
-    for (auto &[file, number] : rights) {
-        file->holders.erase({process, number});
-        world.layer->make(process, "close " + text(number));
-    }
+    std::vector<std::string> lines;
+    for (auto &[file, number] : rights) lines.push_back("close " + text(number));
+    world.layer->make_all(process, lines);
 }
 
 static std::string rights_word(const std::vector<std::pair<Ref, int>> &rights) {
     std::string words;
     for (auto &[file, number] : rights) words += (words.empty() ? "r:" : ",") + text(number);
     return words.empty() ? "-" : words;
-}
-static std::vector<Ref> files_in(const std::vector<std::pair<Ref, int>> &rights) {
-    std::vector<Ref> files;
-    for (auto &[file, number] : rights) files.push_back(file);
-    return files;
 }
 
 // ---- from outside into the layer; each step tells whether something moved
@@ -159,7 +147,7 @@ bool Outside::fetch_from_real(Bridge &bridge) {
         pollfd end = {bridge.real.get(), 0, 0};
         poll(&end, 1, 0);
         if (n < 0 || end.revents & POLLHUP) leave(bridge);
-        else world.layer->make(bridge.process, "shut " + text(bridge.number) + " w"), world.touch(bridge.file->peer), world.touch(bridge.file.get());
+        else world.layer->make(bridge.process, "shut " + text(bridge.number) + " w");
         return true;
     }
     bridge.to_layer = bytes.substr(0, n);
@@ -169,13 +157,10 @@ bool Outside::fetch_from_real(Bridge &bridge) {
 
 bool Outside::send_to_layer(Bridge &bridge) {
     if (bridge.to_layer.empty()) return false;
-    Description *peer = bridge.file->peer;
     std::string words = "send " + text(bridge.number) + " - " + hex(bridge.to_layer) + " " + rights_word(bridge.rights_to_layer) + " -";
     Reply reply = world.layer->make(bridge.process, words);
     if (reply.error == EAGAIN) return false;
-    if (reply.ok() && peer && !bridge.rights_to_layer.empty()) peer->passing.push_back(files_in(bridge.rights_to_layer));
-    if (reply.ok() && peer) world.arrived(bridge.file.get(), *peer, reply.number(1));
-    else world.touch(bridge.file.get()), world.touch(peer);
+    if (reply.ok()) world.counts.rights_sent += bridge.rights_to_layer.size();
     close_rights(bridge.process, bridge.rights_to_layer);
     bridge.rights_to_layer.clear();
     if (reply.error) bridge.to_layer.clear();
@@ -189,45 +174,37 @@ bool Outside::send_to_layer(Bridge &bridge) {
 // A socket of the layer that is passed outside goes on there as one end of a pair, which is carried over too.
 File Outside::bridge_further(int process, int number, const Ref &file) {
     int ends[2];
-    if (socketpair(AF_UNIX, file->kind | SOCK_CLOEXEC, 0, ends)) throw Fault(std::string("no pair for a program outside: ") + strerror(errno));
+    if (socketpair(AF_UNIX, (int)file->kind | SOCK_CLOEXEC, 0, ends)) throw Fault(std::string("no pair for a program outside: ") + strerror(errno));
     fcntl(ends[0], F_SETFL, O_NONBLOCK);
     auto bridge = std::make_unique<Bridge>();
     bridge->real.reset(ends[0]);
     bridge->process = process, bridge->number = number, bridge->file = file;
-    file->holders.insert({process, number});
-    world.touch(file.get());
     add_bridge(std::move(bridge));
     return File(ends[1]);
 }
 
 void Outside::take_rights_out(Bridge &bridge, const Reply &reply) {
-    std::vector<int> numbers;
-    for (auto &item : split(reply.word(4), '+'))
-        if (item.compare(0, 2, "r:") == 0)
-            for (auto &number : split(item.substr(2), ',')) numbers.push_back(atoi(number.c_str()));
-    auto &passing = bridge.file->passing;
-    if (passing.empty() || numbers.empty()) return;
-    std::vector<Ref> rights = std::move(passing.front());
-    passing.pop_front();
-    for (size_t i = 0; i < numbers.size() && i < rights.size(); i++) {
-        if (!rights[i]->is_socket()) {
-            bridge.rights_to_real.emplace_back(dup(rights[i]->shown.get()));
-            world.layer->make(bridge.process, "close " + text(numbers[i]));
+    std::vector<std::pair<Ref, int>> closes;
+    world.counts.rights_received += reply.leads.size();
+    for (const Lead &lead : reply.leads) {
+        auto found = world.files.find(lead.description);
+        if (found == world.files.end()) continue;
+        Ref file = found->second;
+        bool goes_on = file->is_connection() && !file->listening;
+        if (goes_on) {
+            bridge.rights_to_real.push_back(bridge_further(bridge.process, lead.number, file));
             continue;
         }
-        if (!rights[i]->is_connection() || rights[i]->listening) {
-            world.complain("refused: a listening or datagram socket of the layer was passed to a program outside, which gets nothing");
-            world.layer->make(bridge.process, "close " + text(numbers[i]));
-            continue;
-        }
-        bridge.rights_to_real.push_back(bridge_further(bridge.process, numbers[i], rights[i]));
+        closes.push_back({file, lead.number});
+        if (!file->is_socket()) bridge.rights_to_real.emplace_back(dup(file->shown.get()));
+        else world.complain("refused: a listening or datagram socket of the layer was passed to a program outside, which gets nothing");
     }
+    close_rights(bridge.process, closes);
 }
 
 bool Outside::fetch_from_layer(Bridge &bridge) {
-    if (!bridge.to_real.empty() || bridge.layer_is_over || !(bridge.file->conditions & (IN | HUP | ERR))) return false;
+    if (!bridge.to_real.empty() || bridge.layer_is_over || !bridge.file->has(IN | HUP | ERR)) return false;
     Reply reply = world.layer->make(bridge.process, "recv " + text(bridge.number) + " " + text(PIECE) + " rights:" + text(MOST_RIGHTS) + " -");
-    world.received(*bridge.file, reply, false);
     if (reply.error == EAGAIN) return false;
     if (reply.error || !reply.number(1)) {
         bridge.layer_is_over = true;
@@ -268,12 +245,12 @@ void Outside::leave(Bridge &bridge) {
     if (bridge.has_left) return;
     bridge.has_left = true;
     watch(bridge.real.get(), bridge.watched, 0);
+    world.cancel(std::exchange(bridge.pending, 0));
     world.layer->make(bridge.process, "close " + text(bridge.number));
-    bridge.file->holders.erase({bridge.process, bridge.number});
 }
 
 void Outside::carry(Bridge &bridge) {
-    bool moved = !bridge.server;
+    bool moved = !bridge.pending;
     while (moved && !bridge.has_left) {
         moved = send_to_layer(bridge) || send_to_real(bridge) || fetch_from_layer(bridge);
         if (!moved && !bridge.has_left) moved = fetch_from_real(bridge);
@@ -281,21 +258,20 @@ void Outside::carry(Bridge &bridge) {
     if (bridge.real_is_over && bridge.layer_is_over && bridge.to_layer.empty() && bridge.to_real.empty()) leave(bridge);
     if (bridge.has_left) return;
     unsigned wanted = 0;
-    if (bridge.to_layer.empty() && !bridge.real_is_over && !bridge.server) wanted |= EPOLLIN;
+    if (bridge.to_layer.empty() && !bridge.real_is_over && !bridge.pending) wanted |= EPOLLIN;
     if (!bridge.to_real.empty()) wanted |= EPOLLOUT;
     watch(bridge.real.get(), bridge.watched, wanted);
 }
 
 bool Outside::wants_to_carry(const Bridge &bridge) const {
-    if (bridge.has_left || bridge.server) return bridge.server;
-    unsigned conditions = bridge.file->conditions;
-    bool has_input = conditions & (IN | HUP | ERR) && bridge.to_real.empty() && !bridge.layer_is_over;
-    return has_input || (!bridge.to_layer.empty() && conditions & (OUT | HUP));
+    if (bridge.has_left || bridge.pending) return false;
+    bool has_input = bridge.file->has(IN | HUP | ERR) && bridge.to_real.empty() && !bridge.layer_is_over;
+    return has_input || (!bridge.to_layer.empty() && bridge.file->has(OUT | HUP));
 }
 
-bool Outside::has_bridge(const Description *file) const {
+bool Outside::has_bridge(int description) const {
     for (auto &[number, bridge] : bridges)
-        if (bridge->file.get() == file && !bridge->has_left) return true;
+        if (bridge->file->id == description && !bridge->has_left) return true;
     return false;
 }
 
@@ -308,8 +284,7 @@ void Outside::carry_all() {
     std::vector<Bridge *> ready;
     for (auto &[number, bridge] : bridges)
         if (wants_to_carry(*bridge)) ready.push_back(bridge.get());
-    for (Bridge *bridge : ready)
-        if (!bridge->server || knock(*bridge)) carry(*bridge);
+    for (Bridge *bridge : ready) carry(*bridge);
     std::vector<Description *> servers;
     for (auto &[server, datagram] : held) servers.push_back(server);
     for (Description *server : servers)
@@ -341,9 +316,7 @@ bool Outside::pass_datagram(Description *server, const Datagram &datagram) {
     std::string words = "send " + text(datagram.number) + " " + server->name + " " + hex(datagram.bytes) + " " + rights_word(datagram.rights) + " -";
     Reply reply = world.layer->make(datagram.process, words);
     if (reply.error == EAGAIN) return false;
-    if (reply.ok() && !datagram.rights.empty()) server->passing.push_back(files_in(datagram.rights));
-    if (reply.ok()) world.arrived(nullptr, *server, reply.number(1));
-    else world.touch(server);
+    if (reply.ok()) world.counts.rights_sent += datagram.rights.size();
     close_rights(datagram.process, datagram.rights);
     return true;
 }

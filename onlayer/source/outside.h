@@ -8,6 +8,7 @@ struct Bridge {
     int process = 0, number = 0;               // the guest's, in the layer
     Ref file;                                  // the guest's end
     Description *server = nullptr;             // to which it isn't connected yet, since the backlog is full
+    unsigned pending = 0;                      // the connect that waits for it
     std::string to_layer, to_real;             // what waits to be carried on
     std::vector<std::pair<Ref, int>> rights_to_layer;
     std::vector<File> rights_to_real;
@@ -31,7 +32,8 @@ class Outside {
 
     void watch(int number, unsigned &watched, unsigned wanted);
     void admit(Description *server);
-    bool knock(Bridge &bridge);
+    void knock(Bridge &bridge);
+    void enter(Bridge &bridge, const Reply &reply);
     void add_bridge(std::unique_ptr<Bridge> bridge);
     std::vector<std::pair<Ref, int>> hold_rights(int process, std::vector<File> files);
     void close_rights(int process, const std::vector<std::pair<Ref, int>> &rights);
@@ -56,7 +58,7 @@ public:
     ~Outside();
     void watch_gate(Description *server);
     void forget_gate(Description *server);
-    bool has_bridge(const Description *file) const;
+    bool has_bridge(int description) const;
     int event_file() const { return events.get(); }
     void handle_events();
     void carry_all();                          // what the layer has for programs outside

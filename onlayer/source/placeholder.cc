@@ -37,7 +37,7 @@ static void take_input(Description &file) {
 File &Placeholders::listener_of(Kind kind) {
     File &listener = kind == STREAM ? streams : records;
     if (!listener) {
-        listener.reset(socket(AF_UNIX, kind | SOCK_CLOEXEC, 0));
+        listener.reset(socket(AF_UNIX, (int)kind | SOCK_CLOEXEC, 0));
         bind_anywhere(listener.get());
         if (::listen(listener.get(), 128)) throw Fault("no listener for placeholders");
     }
@@ -46,14 +46,14 @@ File &Placeholders::listener_of(Kind kind) {
 
 void Placeholders::make_idle(Description &file, bool nonblock) {
     if (file.kind == DATAGRAM) return make_pair(file, nonblock);
-    file.shown.reset(socket(AF_UNIX, file.kind | SOCK_CLOEXEC | (nonblock ? SOCK_NONBLOCK : 0), 0));
+    file.shown.reset(socket(AF_UNIX, (int)file.kind | SOCK_CLOEXEC | (nonblock ? SOCK_NONBLOCK : 0), 0));
     if (!file.shown) throw Fault(std::string("no placeholder: ") + strerror(errno));
     keep_small(file.shown.get());
 }
 
 void Placeholders::make_pair(Description &file, bool nonblock) {
     int ends[2];
-    if (socketpair(AF_UNIX, file.kind | SOCK_CLOEXEC, 0, ends)) throw Fault(std::string("no placeholder: ") + strerror(errno));
+    if (socketpair(AF_UNIX, (int)file.kind | SOCK_CLOEXEC, 0, ends)) throw Fault(std::string("no placeholder: ") + strerror(errno));
     file.shown.reset(ends[0]);
     file.hidden.reset(ends[1]);
     keep_small(ends[0]);
@@ -65,6 +65,7 @@ void Placeholders::connect(Description &file) {
     File &listener = listener_of(file.kind);
     connect_to(file.shown.get(), listener.get());
     file.hidden.reset(accept4(listener.get(), nullptr, nullptr, SOCK_CLOEXEC));
+    file.shown_conditions = 0;
 }
 
 void Placeholders::listen(Description &file) {
@@ -77,7 +78,7 @@ void Placeholders::listen(Description &file) {
 static void show_listener(Description &file, bool in) {
     if (in == !file.dummies.empty()) return;
     if (in) {
-        File client(socket(AF_UNIX, file.kind | SOCK_CLOEXEC, 0));
+        File client(socket(AF_UNIX, (int)file.kind | SOCK_CLOEXEC, 0));
         connect_to(client.get(), file.shown.get());
         file.dummies.push_back(std::move(client));
         return;
@@ -104,7 +105,6 @@ static void close_other_end(Description &file, unsigned conditions) {
     drain(file.hidden.get());
     if (conditions & ERR) put_byte(file.shown.get());     // unread at the close: the kernel tells ECONNRESET
     file.hidden.reset();
-    file.shown_hup = true;
     file.shown_conditions = conditions;
 }
 
@@ -115,21 +115,16 @@ static void show_room(Description &file, bool has_room) {
     file.shown_full = !has_room;
 }
 
-void Placeholders::show(Description &file, unsigned conditions) {
-    file.conditions = conditions;
-    if (!file.shown) return;
+void Placeholders::show(Description &file) {
+    unsigned conditions = file.told.conditions, changed = file.shown_conditions ^ conditions;
+    bool has_arrived = std::exchange(file.has_arrived, false);
+    if (!file.shown || !file.is_socket()) return;
     if (file.listening) return show_listener(file, conditions & IN);
     if (!file.hidden) return show_lonely(file, conditions);
-    unsigned changed = file.shown_conditions ^ conditions;
     if (changed & IN) conditions & IN ? add_input(file) : take_input(file);
-    bool is_datagram = file.kind == DATAGRAM, hangs_up = !is_datagram && conditions & HUP && !file.shown_hup;
-    if (hangs_up && !(file.connected && file.peer)) return close_other_end(file, conditions);
+    else if (has_arrived && conditions & IN) add_input(file);    // edge-triggered epoll wants an event
+    if (file.kind != DATAGRAM && conditions & HUP) return close_other_end(file, conditions);
     if (conditions & RDHUP && changed & RDHUP) shutdown(file.hidden.get(), SHUT_WR);
-    if (hangs_up) shutdown(file.shown.get(), SHUT_RDWR), file.shown_hup = true;
     show_room(file, conditions & OUT);
     file.shown_conditions = conditions;
-}
-
-void Placeholders::arrive(Description &file) {
-    if (file.shown && file.hidden && file.shown_conditions & IN) add_input(file);
 }

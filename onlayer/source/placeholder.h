@@ -11,8 +11,7 @@ public:
     void make_pair(Description &file, bool nonblock);
     void connect(Description &file);
     void listen(Description &file);
-    void show(Description &file, unsigned conditions);
-    void arrive(Description &file);            // something more has come: edge-triggered epoll wants an event
+    void show(Description &file);              // what was told last
 };
 
 void connect_to(int socket, int listener);

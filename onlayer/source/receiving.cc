@@ -28,16 +28,17 @@ static std::string letters_of(unsigned flags) {
     return letters.empty() ? "-" : letters;
 }
 
-// What the reply says was in the message; the numbers of its rights are the layer's.
-static Got read_got(const World &world, const Reply &reply, std::vector<int> &numbers) {
+// What the reply says was in the message, and the open files that it gave.
+static Got read_got(const World &world, const Reply &reply, unsigned flags, std::vector<Gift> &gifts) {
     Got got;
     got.n = reply.number(1), got.data = unhex(reply.word(2)), got.from = reply.word(5);
-    for (auto &flag : split(reply.word(3), '|'))
+    for (auto &flag : split(std::string(reply.word(3)), '|'))
         got.flags |= flag == "TRUNC" ? MSG_TRUNC : flag == "CTRUNC" ? MSG_CTRUNC : flag == "EOR" ? MSG_EOR : 0;
-    for (auto &item : split(reply.word(4), '+')) {
+    for (const Lead &lead : reply.leads)
+        if (auto found = world.files.find(lead.description); found != world.files.end())
+            gifts.push_back({found->second, lead.number, (flags & MSG_CMSG_CLOEXEC) != 0});
+    for (auto &item : split(std::string(reply.word(4)), '+')) {
         auto fields = split(item.substr(std::min<size_t>(2, item.size())), ',');
-        if (item.compare(0, 2, "r:") == 0)
-            for (auto &number : fields) numbers.push_back(atoi(number.c_str()));
         if (item.compare(0, 2, "c:") != 0 || fields.size() != 3) continue;
         got.has_credentials = true;
         got.credentials = {world.real_pid(atol(fields[0].c_str())), (uid_t)strtoul(fields[1].c_str(), nullptr, 10),
@@ -46,63 +47,42 @@ static Got read_got(const World &world, const Reply &reply, std::vector<int> &nu
     return got;
 }
 
-// Which open files the numbers lead to: the layer's reply doesn't tell, the queue's mirror does.
-static void take_rights(Description *own, Got &got, const std::vector<int> &numbers, unsigned flags) {
-    if (own->passing.empty() || (numbers.empty() && !(got.flags & MSG_CTRUNC))) return;
-    std::vector<Ref> &rights = own->passing.front();
-    for (size_t i = 0; i < numbers.size() && i < rights.size(); i++)
-        got.rights.push_back({rights[i], numbers[i], (flags & MSG_CMSG_CLOEXEC) != 0});
-    if (!(flags & MSG_PEEK)) own->passing.pop_front();
-}
-
-static Reply say_receive(World &world, Call &call, size_t n, size_t space, unsigned flags) {
-    std::string words = "recv " + text(call.number->layer) + " " + text(std::min(n, MOST_BYTES)) + " " + text(std::min(space, MOST_SPACE));
-    Reply reply = world.say(*call.process, words + " " + letters_of(flags));
-    world.received(*call.number->file, reply, flags & MSG_PEEK);
-    return reply;
-}
-
-static Result end_of_receive(Call &call, Got got, const Receiver &finish) {
-    if (!call.got.empty()) got.data = call.got + got.data, got.n = got.data.size();
-    return finish(call, got, {});
-}
-
-static Result deliver_rights(World &world, Call &call, Got got, Receiver finish) {
-    Delivery rest;
-    rest.gifts = got.rights;
-    rest.finish = [got, finish](Call &later, const std::vector<int> &numbers) {
-        Got all = got;
-        std::vector<int> there;
-        for (int number : numbers) {
-            if (number >= 0) there.push_back(number);
-            else all.flags |= MSG_CTRUNC;
-        }
-        if (!later.got.empty()) all.data = later.got + all.data, all.n = all.data.size();
-        return finish(later, all, there);
-    };
-    return world.deliver(call, std::move(rest));
-}
-
-Result receive(World &world, Call &call, size_t n, size_t space, unsigned flags, Receiver finish) {
-    if (flags & MSG_OOB) return world.refuse(call, EINVAL, "the layer has no out-of-band data");
-    Description *own = call.number->file.get();
-    if (n && world.is_empty(*own)) {           // the layer isn't asked before something has come, but where that isn't waited for
-        Result result = world.wait(call, own, Until::INPUT, flags, SO_RCVTIMEO);
-        if (result.way == Result::WAIT) return result;
+static void take_rights(Got &got, const std::vector<int> &numbers) {
+    for (int number : numbers) {
+        if (number >= 0) got.rights.push_back(number);
+        else got.flags |= MSG_CTRUNC;
     }
+}
+
+// With what was received before, of a call that wants all.
+static Got joined(const std::string &before, Got got) {
+    if (before.empty()) return got;
+    got.data = before + got.data, got.n = got.data.size(), got.error = 0;
+    return got;
+}
+
+Task<Got> receive(World &world, Call &call, size_t n, size_t space, unsigned flags) {
+    Got got;
+    got.error = flags & MSG_OOB ? world.refuse(call, EINVAL, "the layer has no out-of-band data").error : 0;
+    if (got.error) co_return got;
+    Ref own = call.number->file;
+    std::string before, head = "recv " + text(call.number->layer) + " ", tail = " " + text(std::min(space, MOST_SPACE)) + " " + letters_of(flags);
+    bool wants_all = flags & MSG_WAITALL && !(flags & MSG_PEEK) && own->is_stream();
     for (;;) {
-        Reply reply = say_receive(world, call, n - call.got.size(), space, flags);
-        if (reply.error == EAGAIN) {
-            Result result = world.wait(call, own, Until::INPUT, flags, SO_RCVTIMEO);
-            return result.way == Result::WAIT || call.got.empty() ? result : end_of_receive(call, {}, finish);
+        std::string words = head + text(std::min(n - before.size(), MOST_BYTES)) + tail;
+        Reply reply = co_await world.ask(call, std::move(words), flags, SO_RCVTIMEO);
+        std::vector<Gift> gifts;
+        got = reply.error ? Got() : read_got(world, reply, flags, gifts);
+        got.error = reply.error;
+        own->has_arrived = own->has_arrived || (reply.lets_go_on && got.n > 0);    // what waited for room may have come
+        if (!(flags & MSG_PEEK)) world.counts.rights_received += gifts.size();
+        if (!gifts.empty()) {
+            std::vector<int> numbers = co_await world.deliver(call, std::move(gifts));
+            take_rights(got, numbers);
         }
-        if (reply.error) return call.got.empty() ? fail(reply.error) : end_of_receive(call, {}, finish);
-        std::vector<int> numbers;
-        Got got = read_got(world, reply, numbers);
-        take_rights(own, got, numbers, flags);
-        bool wants_more = flags & MSG_WAITALL && !(flags & MSG_PEEK) && own->is_stream() && got.n > 0 && got.rights.empty();
-        if (!wants_more || call.got.size() + got.n >= n) return deliver_rights(world, call, std::move(got), std::move(finish));
-        call.got += got.data;
+        bool wants_more = wants_all && !got.error && got.n > 0 && got.rights.empty() && before.size() + got.n < n;
+        if (!wants_more) co_return joined(before, std::move(got));
+        before += got.data;
     }
 }
 
@@ -114,11 +94,11 @@ static void append_item(std::string &control, int type, const void *data, size_t
     control.resize(CMSG_ALIGN(control.size()));
 }
 
-static bool write_message(const World &world, Call &call, u64 at, Message &message, const Got &got, const std::vector<int> &rights, unsigned flags) {
+static bool write_message(const World &world, Call &call, u64 at, Message &message, const Got &got, unsigned flags) {
     msghdr &head = message.head;
     std::string control, name = got.from == "u" ? "" : address_bytes(world, got.from);
     if (got.has_credentials) append_item(control, SCM_CREDENTIALS, &got.credentials, sizeof got.credentials);
-    if (!rights.empty()) append_item(control, SCM_RIGHTS, rights.data(), rights.size() * sizeof(int));
+    if (!got.rights.empty()) append_item(control, SCM_RIGHTS, got.rights.data(), got.rights.size() * sizeof(int));
     if (control.size() > head.msg_controllen) control.resize(head.msg_controllen);
     if (head.msg_name && !write_memory(call.task, (u64)head.msg_name, name.data(), std::min<size_t>(name.size(), head.msg_namelen))) return false;
     if (head.msg_name) head.msg_namelen = name.size();
@@ -128,37 +108,31 @@ static bool write_message(const World &world, Call &call, u64 at, Message &messa
     return scatter(call.task, message.parts, got.data) && write_value(call.task, at, head);
 }
 
-static Result receive_message(World &world, Call &call, u64 at, unsigned flags, std::function<Result(Call &, Result)> then) {
+static Task<Result> receive_message(World &world, Call &call, u64 at, unsigned flags) {
     Message message = read_message(call, at);
-    if (message.error) return fail(message.error);
+    if (message.error) co_return fail(message.error);
     size_t space = message.head.msg_control ? message.head.msg_controllen : 0;
-    return receive(world, call, room_of(message.parts), space, flags,
-                   [&world, at, flags, message, then](Call &later, const Got &got, const std::vector<int> &rights) {
-                       Message copy = message;
-                       return then(later, write_message(world, later, at, copy, got, rights, flags) ? done(got.n) : fail(EFAULT));
-                   });
+    Got got = co_await receive(world, call, room_of(message.parts), space, flags);
+    if (got.error) co_return fail(got.error);
+    co_return write_message(world, call, at, message, got, flags) ? done(got.n) : fail(EFAULT);
 }
 
-Result answer_read(World &world, Call &call) {
+Task<Result> answer_read(World &world, Call &call) {
     const auto &a = call.data.args;
-    bool is_recvfrom = call.nr() == SYS_recvfrom;
+    bool is_recvfrom = call.nr() == SYS_recvfrom, is_vector = call.nr() == SYS_readv || call.nr() == SYS_preadv2;
     Parts parts{{(void *)a[1], (size_t)a[2]}};
-    if (call.nr() == SYS_readv || call.nr() == SYS_preadv2)
-        if (int error = read_parts(call, a[1], a[2], parts)) return fail(error == EMSGSIZE ? EINVAL : error);
+    int error = is_vector ? read_parts(call, a[1], a[2], parts) : 0;
+    if (error) co_return fail(error == EMSGSIZE ? EINVAL : error);
     size_t room = room_of(parts);
-    if (call.nr() == SYS_read && !room) return done(0);
-    unsigned flags = is_recvfrom ? a[3] & ~MSG_CMSG_CLOEXEC : 0;
-    return receive(world, call, room, 0, flags, [&world, parts, is_recvfrom](Call &later, const Got &got, const std::vector<int> &) {
-        const auto &a = later.data.args;
-        if (!scatter(later.task, parts, got.data)) return fail(EFAULT);
-        std::string name = got.from == "u" ? "" : address_bytes(world, got.from);
-        return !is_recvfrom || write_address(later, a[4], a[5], name) ? done(got.n) : fail(EFAULT);
-    });
+    if (call.nr() == SYS_read && !room) co_return done(0);
+    Got got = co_await receive(world, call, room, 0, is_recvfrom ? a[3] & ~MSG_CMSG_CLOEXEC : 0);
+    if (got.error) co_return fail(got.error);
+    if (!scatter(call.task, parts, got.data)) co_return fail(EFAULT);
+    std::string name = got.from == "u" ? "" : address_bytes(world, got.from);
+    co_return !is_recvfrom || write_address(call, a[4], a[5], name) ? done(got.n) : fail(EFAULT);
 }
 
-Result answer_recvmsg(World &world, Call &call) {
-    return receive_message(world, call, call.data.args[1], call.data.args[2], [](Call &, Result result) { return result; });
-}
+Task<Result> answer_recvmsg(World &world, Call &call) { return receive_message(world, call, call.data.args[1], call.data.args[2]); }
 
 static bool is_past_limit(Call &call) {
     timespec limit;
@@ -168,24 +142,20 @@ static bool is_past_limit(Call &call) {
 }
 
 // The limit is looked at after each message, as recvmmsg(2) says; a receive waits without one.
-Result answer_recvmmsg(World &world, Call &call) {
+Task<Result> answer_recvmmsg(World &world, Call &call) {
     const auto &a = call.data.args;
-    size_t count = std::min<u64>((unsigned)a[2], 1024);
-    bool is_past = is_past_limit(call) && call.messages;
-    while (call.messages < count && !is_past) {
+    unsigned count = std::min<u64>((unsigned)a[2], 1024), messages = 0;
+    bool is_past = is_past_limit(call) && messages;
+    while (messages < count && !is_past) {
         unsigned flags = a[3] & ~MSG_WAITFORONE;
-        if (call.messages && a[3] & MSG_WAITFORONE) flags |= MSG_DONTWAIT;
-        u64 at = a[1] + call.messages * sizeof(mmsghdr);
-        unsigned now_done = call.messages + 1;
-        Result result = receive_message(world, call, at, flags, [at, now_done](Call &later, Result one) {
-            unsigned n = one.value;
-            if (one.error) return one;
-            return write_value(later.task, at + offsetof(mmsghdr, msg_len), n) ? done(now_done) : fail(EFAULT);
-        });
-        if (result.way == Result::WAIT || result.way == Result::LATER) return result;
-        if (result.error) return call.messages ? done(call.messages) : result;
-        call.messages = now_done;
+        if (messages && a[3] & MSG_WAITFORONE) flags |= MSG_DONTWAIT;
+        u64 at = a[1] + messages * sizeof(mmsghdr);
+        Result result = co_await receive_message(world, call, at, flags);
+        unsigned n = result.value;
+        if (!result.error && !write_value(call.task, at + offsetof(mmsghdr, msg_len), n)) result = fail(EFAULT);
+        if (result.error) co_return messages ? done(messages) : result;
+        messages++;
         is_past = is_past_limit(call);
     }
-    return done(call.messages);
+    co_return done(messages);
 }

@@ -4,6 +4,7 @@
 #include <sys/syscall.h>
 #include <sys/wait.h>
 #include <unistd.h>
+#include <algorithm>
 #include <fstream>
 #include "tell.h"
 #include "text.h"
@@ -40,16 +41,20 @@ public:
     std::string end() const { return words + (json ? "}\n" : "\n"); }
 };
 
-static const Process *holder_of(const World &world, const Description *file) {
-    if (!file || file->holders.empty()) return nullptr;
-    auto found = world.by_layer.find(file->holders.begin()->process);
+// The process that has the other end of a call's socket, as the layer tells it now.
+static const Process *other_end(const World &world, std::map<int, Held> &holders, const Call &call) {
+    int peer = call.number ? holders[call.number->file->id].peer : -1;
+    if (peer < 0 || holders[peer].processes.empty()) return nullptr;
+    auto found = world.by_layer.find(holders[peer].processes.front());
     return found == world.by_layer.end() ? nullptr : found->second;
 }
 
 static std::string who_waits(World &world) {
     std::string lines;
-    for (Call &call : world.waiting) {
-        const Process *other = call.number ? holder_of(world, call.number->file->peer) : nullptr;
+    std::map<int, Held> holders = world.layer->holders();
+    for (auto &[task, call] : world.calls) {
+        if (!call.waits()) continue;
+        const Process *other = other_end(world, holders, call);
         std::string whom = other ? ", whose other end " + world.title(*other) + " has" : "";
         lines += Line(world.options.json, "waits")
                      .say("  " + world.title(*call.process) + " waits in " + call_name(call.nr()) + " of " + text(call.argument(0)) + whom)
@@ -83,10 +88,12 @@ static pid_t start_telling(const World &world, const std::string &what, const st
 }
 
 void report_now(World &world) {
+    long waiting = 0;
+    for (auto &[task, call] : world.calls) waiting += call.waits();
     world.layer->flush();
     Line line(world.options.json, "now");
-    line.say("onlayer: " + text(world.layer->calls()) + " calls of the layer so far; " + text(world.waiting.size()) + " calls wait");
-    tell(line.field("calls", world.layer->calls()).field("waiting", world.waiting.size()).end() + who_waits(world));
+    line.say("onlayer: " + text(world.layer->calls()) + " calls of the layer so far; " + text(waiting) + " calls wait");
+    tell(line.field("calls", world.layer->calls()).field("waiting", waiting).end() + who_waits(world));
     for (const char *what : {"holders", "audit"}) {        // of a copy, since the script goes on
         std::string copy = world.options.script + "." + what;
         std::ofstream(copy, std::ios::binary) << std::ifstream(world.options.script, std::ios::binary).rdbuf();
@@ -96,13 +103,6 @@ void report_now(World &world) {
 
 void report_deadlock(World &world) {
     tell(Line(world.options.json, "deadlock").say("onlayer: deadlock: every thread waits for the layer").end() + who_waits(world));
-}
-
-static unsigned long rights_in_flight(const World &world) {
-    unsigned long all = world.counts.dropped_rights;
-    for (Description *file : world.descriptions)
-        for (auto &rights : file->passing) all += rights.size();
-    return all;
 }
 
 static std::string unused_listeners(World &world) {
@@ -119,14 +119,14 @@ static std::string unused_listeners(World &world) {
 
 static std::string summary(const World &world) {
     const Counts &counts = world.counts;
-    unsigned long in_flight = rights_in_flight(world);
+    unsigned long in_flight = counts.rights_sent - std::min(counts.rights_sent, counts.rights_received);
     Line line(world.options.json, "summary");
     line.say("onlayer: " + text(counts.answered) + " calls answered by the layer, " + text(counts.passed) + " let through, " + text(counts.refused) +
              " refused, " + text(counts.failed) + " failed as asked; " + text(counts.outside) + " connections to servers outside, " +
              text(counts.guests) + " guests from outside; " + text(in_flight) + " descriptors in flight that nobody received");
     line.field("answered", counts.answered).field("passed", counts.passed).field("refused", counts.refused).field("failed", counts.failed);
     line.field("outside", counts.outside).field("guests", counts.guests).field("in_flight", in_flight).field("put_off", counts.put_off);
-    return line.field("out_of_step", counts.out_of_step).field("layer_calls", world.layer->calls()).field("layer_polls", world.layer->polls()).end();
+    return line.field("out_of_step", counts.out_of_step).field("layer_calls", world.layer->calls()).end();
 }
 
 void report_end(World &world, unsigned long calls_at_end) {

@@ -31,7 +31,7 @@ static bool read_item(const World &world, const Call &call, const cmsghdr &head,
     ucred given;
     if (head.cmsg_type == SCM_RIGHTS) {
         items.rights.resize(before + length / sizeof(int));
-        memcpy(items.rights.data() + before, data, length / sizeof(int) * sizeof(int));
+        if (length >= sizeof(int)) memcpy(&items.rights[before], data, length / sizeof(int) * sizeof(int));
         return true;
     }
     if (head.cmsg_type != SCM_CREDENTIALS || length != sizeof given) return false;
@@ -73,7 +73,7 @@ Control read_control(World &world, Call &call, u64 at, size_t length) {
             return out;
         }
         words += (words.empty() ? "r:" : ",") + text(number < 0 ? NO_NUMBER : number);
-        if (number >= 0) out.rights.push_back(call.process->table[right]->file);
+        out.rights += number >= 0;
     }
     if (!items.credentials.empty()) words += (words.empty() ? "" : "+") + items.credentials;
     if (!words.empty()) out.word = words;
@@ -98,31 +98,6 @@ bool passes_own_socket(World &world, Call &call) {
 
 // ---- sends
 
-static Description *target_of(const World &world, const Call &call, const Address &to) {
-    Description *own = call.number->file.get();
-    if (own->kind == DATAGRAM && to.is_given()) return world.names.socket_of(to.word);
-    return own->peer;
-}
-
-static Result wait_to_send(World &world, Call &call, Description *target, unsigned flags) {
-    Description *own = call.number->file.get();
-    if (own->kind == DATAGRAM) return world.wait(call, target ? target : own, Until::CHANGE, flags, SO_SNDTIMEO);
-    return world.wait(call, own, Until::OUTPUT, flags, SO_SNDTIMEO);
-}
-
-static Result fail_to_send(World &world, Call &call, Description *target, int error, unsigned flags) {
-    world.touch(target), world.touch(call.number->file.get());
-    Result result = fail(error);
-    result.raises_sigpipe = error == EPIPE && call.number->file->is_stream() && !(flags & MSG_NOSIGNAL);
-    return result;
-}
-
-static void take_in(World &world, Description *own, Description *target, const Control &control, size_t done, long n) {
-    if (!target) return;
-    if (!done && !control.rights.empty()) target->passing.push_back(control.rights);
-    world.arrived(own, *target, n);
-}
-
 // A datagram of a bound socket to one outside: it is sent from where programs outside see that name.
 static Result send_from_gate(Call &call, const Parts &parts, const Address &to) {
     sockaddr_un name = {AF_UNIX, {}};
@@ -136,64 +111,68 @@ static Result send_from_gate(Call &call, const Parts &parts, const Address &to) 
     return n < 0 ? fail(errno) : done(n);
 }
 
-Result send_parts(World &world, Call &call, const Parts &parts, const Address &to, Control &control, unsigned flags) {
-    if (flags & MSG_OOB) return world.refuse(call, EOPNOTSUPP, "the layer has no out-of-band data");
-    if (to.is_outside && call.number->file->gate) return send_from_gate(call, parts, to);
-    if (to.is_outside) return go_outside(world, call);
-    Description *own = call.number->file.get(), *target = target_of(world, call, to);
-    std::string data, before = "send " + text(call.number->layer) + " " + to.word + " ", letters = flags & MSG_DONTWAIT ? "d" : "-";
-    size_t all = room_of(parts);
+// In pieces, as a stream's queue takes them.
+static Task<Result> send_pieces(World &world, Call &call, Parts parts, Address to, Control control, unsigned flags) {
+    bool is_stream = call.number->file->is_stream();
+    std::string data, before = "send " + text(call.number->layer) + " " + to.word + " ", letters = flags & MSG_DONTWAIT ? " d" : " -";
+    size_t done_bytes = 0, all = room_of(parts);
     for (;;) {
-        if (!gather(call.task, parts, call.done, own->is_stream() ? PIECE : PIECE + 1, data)) return call.done ? done(call.done) : fail(EFAULT);
-        std::string words = before + hex(data) + " " + (call.done ? "-" : control.word) + " " + letters;
-        Reply reply = world.say(*call.process, words);
-        if (reply.error == EAGAIN) {
-            Result result = wait_to_send(world, call, target, flags);
-            return result.way != Result::WAIT && call.done ? done(call.done) : result;
-        }
-        if (reply.error) return call.done ? done(call.done) : fail_to_send(world, call, target, reply.error, flags);
-        if (reply.number(1) || !own->is_stream()) take_in(world, own, target, control, call.done, reply.number(1));
-        call.done += reply.number(1);
-        if (!own->is_stream() || call.done >= all || !reply.number(1)) return done(call.done);
+        if (!gather(call.task, parts, done_bytes, is_stream ? PIECE : PIECE + 1, data)) co_return done_bytes ? done(done_bytes) : fail(EFAULT);
+        std::string words = before + hex(data) + " " + (done_bytes ? "-" : control.word) + letters;
+        Reply reply = co_await world.ask(call, std::move(words), flags, SO_SNDTIMEO);
+        if (reply.error && done_bytes) co_return done(done_bytes);
+        Result result = reply.error ? fail(reply.error) : done(reply.number(1));
+        result.raises_sigpipe = reply.error == EPIPE && is_stream && !(flags & MSG_NOSIGNAL);
+        if (reply.error) co_return result;
+        if (!done_bytes) world.counts.rights_sent += control.rights;
+        done_bytes += result.value;
+        if (!is_stream || done_bytes >= all || !result.value) co_return done(done_bytes);
     }
 }
 
-Result send_message(World &world, Call &call, u64 at, unsigned flags) {
+static Task<Result> send_parts(World &world, Call &call, Parts parts, Address to, Control control, unsigned flags) {
+    if (flags & MSG_OOB) co_return world.refuse(call, EOPNOTSUPP, "the layer has no out-of-band data");
+    if (to.is_outside && call.number->file->gate) co_return send_from_gate(call, parts, to);
+    if (to.is_outside) co_return go_outside(world, call);
+    co_return co_await send_pieces(world, call, std::move(parts), std::move(to), std::move(control), flags);
+}
+
+static Task<Result> send_message(World &world, Call &call, u64 at, unsigned flags) {
     Message message = read_message(call, at);
-    if (message.error) return fail(message.error);
+    if (message.error) co_return fail(message.error);
     msghdr &head = message.head;
     Address to;
     if (head.msg_name && head.msg_namelen) to = read_address(world, call, (u64)head.msg_name, head.msg_namelen, false);
     Control control = read_control(world, call, (u64)head.msg_control, head.msg_control ? head.msg_controllen : 0);
     if (to.error && control.word[0] == 'x') control.error = EINVAL;    // what was given is judged in the order of the layer
-    if (control.error || to.error) return fail(control.error ? control.error : to.error);
-    return send_parts(world, call, message.parts, to, control, flags);
+    if (control.error || to.error) co_return fail(control.error ? control.error : to.error);
+    co_return co_await send_parts(world, call, std::move(message.parts), std::move(to), std::move(control), flags);
 }
 
-Result answer_write(World &world, Call &call) {
+Task<Result> answer_write(World &world, Call &call) {
     const auto &a = call.data.args;
     bool is_vector = call.nr() == SYS_writev || call.nr() == SYS_pwritev2, is_sendto = call.nr() == SYS_sendto;
     Parts parts{{(void *)a[1], (size_t)a[2]}};
-    if (is_vector)
-        if (int error = read_parts(call, a[1], a[2], parts)) return fail(error == EMSGSIZE ? EINVAL : error);
+    int error = is_vector ? read_parts(call, a[1], a[2], parts) : 0;
+    if (error) co_return fail(error == EMSGSIZE ? EINVAL : error);
     Address to;
-    Control none;
     if (is_sendto && a[4] && a[5]) to = read_address(world, call, a[4], (long)(int)a[5], false);
-    if (to.error) return fail(to.error);
-    return send_parts(world, call, parts, to, none, is_sendto ? a[3] : 0);
+    if (to.error) co_return fail(to.error);
+    Control none;
+    co_return co_await send_parts(world, call, std::move(parts), std::move(to), std::move(none), is_sendto ? a[3] : 0);
 }
-Result answer_sendmsg(World &world, Call &call) { return send_message(world, call, call.data.args[1], call.data.args[2]); }
 
-Result answer_sendmmsg(World &world, Call &call) {
+Task<Result> answer_sendmsg(World &world, Call &call) { return send_message(world, call, call.data.args[1], call.data.args[2]); }
+
+Task<Result> answer_sendmmsg(World &world, Call &call) {
     const auto &a = call.data.args;
-    size_t count = std::min<u64>((unsigned)a[2], 1024);
-    for (; call.messages < count; call.messages++, call.done = 0) {
-        u64 at = a[1] + call.messages * sizeof(mmsghdr);
-        Result result = send_message(world, call, at, a[3]);
-        if (result.way == Result::WAIT) return result;
-        if (result.way == Result::PASS || result.error) return call.messages ? done(call.messages) : result;
+    unsigned count = std::min<u64>((unsigned)a[2], 1024);
+    for (unsigned messages = 0; messages < count; messages++) {
+        u64 at = a[1] + messages * sizeof(mmsghdr);
+        Result result = co_await send_message(world, call, at, a[3]);
+        if (result.way == Result::PASS || result.error) co_return messages ? done(messages) : result;
         unsigned sent = result.value;
-        if (!write_value(call.task, at + offsetof(mmsghdr, msg_len), sent)) return fail(EFAULT);
+        if (!write_value(call.task, at + offsetof(mmsghdr, msg_len), sent)) co_return fail(EFAULT);
     }
-    return done(call.messages);
+    co_return done(count);
 }

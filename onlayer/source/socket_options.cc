@@ -25,6 +25,12 @@ static Result give_value(const Call &call, const std::string &value) {
     return is_there ? done(0) : fail(EFAULT);
 }
 
+// The process at the other end, as it was when they were connected; 0 where there is none.
+static int peer_pid(World &world, Call &call) {
+    Reply reply = world.say(*call.process, "getopt " + text(call.number->layer) + " peercred");
+    return reply.ok() ? world.real_pid(reply.number(1)) : 0;
+}
+
 static Result get_peer(World &world, Call &call) {
     ucred peer = call.number->file->listener;
     Reply reply = world.say(*call.process, "getopt " + text(call.number->layer) + " peercred");
@@ -33,20 +39,20 @@ static Result get_peer(World &world, Call &call) {
     return give_value(call, bytes_of(peer));
 }
 
-static Result get_peer_groups(Call &call) {
+static Result get_peer_groups(World &world, Call &call) {
     const Description &own = *call.number->file;
     unsigned room = 0, length = own.peer_groups.size() * sizeof(gid_t);
-    if (!own.peer_pid) return fail(ENODATA);
+    if (!peer_pid(world, call)) return fail(ENODATA);
     if (!read_value(call.task, call.data.args[4], room)) return fail(EFAULT);
     if (!write_value(call.task, call.data.args[4], length)) return fail(EFAULT);
     if (room < length) return fail(ERANGE);
     return write_memory(call.task, call.data.args[3], own.peer_groups.data(), length) ? done(0) : fail(EFAULT);
 }
 
-static Result get_peer_pidfd(Call &call) {
-    const Description &own = *call.number->file;
-    if (!own.peer_pid) return fail(ENODATA);
-    File file((int)syscall(SYS_pidfd_open, own.peer_pid, 0));
+static Result get_peer_pidfd(World &world, Call &call) {
+    int pid = peer_pid(world, call);
+    if (!pid) return fail(ENODATA);
+    File file((int)syscall(SYS_pidfd_open, pid, 0));
     if (!file) return fail(errno);
     seccomp_notif_addfd add = {};
     add.id = call.id, add.srcfd = file.get(), add.newfd_flags = O_CLOEXEC;
@@ -66,7 +72,6 @@ static const char *option_word(int option) {
 
 static Result get_from_layer(World &world, Call &call, int option) {
     Reply reply = world.say(*call.process, "getopt " + text(call.number->layer) + " " + option_word(option));
-    if (option == SO_ERROR) world.touch(call.number->file.get());
     if (reply.error) return fail(reply.error);
     int value = (int)reply.number(1);
     if (option == SO_ERROR && value) value = ECONNRESET;
@@ -79,8 +84,8 @@ Result answer_getsockopt(World &world, Call &call) {
     if (option_word(option)) return get_from_layer(world, call, option);
     switch (option) {
     case SO_PEERCRED: return get_peer(world, call);
-    case SO_PEERGROUPS: return get_peer_groups(call);
-    case SO_PEER_PIDFD: return get_peer_pidfd(call);
+    case SO_PEERGROUPS: return get_peer_groups(world, call);
+    case SO_PEER_PIDFD: return get_peer_pidfd(world, call);
     case SO_SNDBUF: return give_value(call, bytes_of(call.number->file->send_room));
     case SO_RCVBUF: return give_value(call, bytes_of(call.number->file->receive_room));
     case SO_PEEK_OFF: return give_value(call, bytes_of(-1));
@@ -91,14 +96,16 @@ Result answer_getsockopt(World &world, Call &call) {
 
 static Result set_credentials(World &world, Call &call, int value) {
     Description &own = *call.number->file;
-    Reply reply = world.say(*call.process, "setopt " + text(call.number->layer) + " passcred " + (value ? "1" : "0"));
-    world.touch(&own);
-    if (reply.error) return fail(reply.error);
+    std::string number = text(call.number->layer);
+    std::vector<std::string> lines{"setopt " + number + " passcred " + (value ? "1" : "0")};
+    bool may_be_named = value && own.name.empty() && !own.is_server_end;    // a server's end has its listener's name
+    if (may_be_named) lines.push_back("sockname " + number);
+    std::vector<Reply> replies = world.say_all(*call.process, lines);
+    if (replies[0].error) return fail(replies[0].error);
     own.passes_credentials = value;
-    bool is_tied = own.peer || (own.is_connection() && own.connected);    // a server's end has its listener's name
-    if (!value || !own.name.empty() || is_tied) return done(0);
-    Reply name = world.say(*call.process, "sockname " + text(call.number->layer));    // it has been given one
-    if (name.ok() && name.word(1) != "u") own.name = name.word(1), world.names.bind(own.name, &own);
+    if (!may_be_named || !replies[1].ok() || replies[1].word(1) == "u") return done(0);
+    own.name = replies[1].word(1);
+    world.names.bind(own.name, &own);
     return done(0);
 }
 
@@ -131,16 +138,23 @@ Result answer_setsockopt(World &world, Call &call) {
     return pass();
 }
 
+static long first_datagram(World &world, Call &call) {
+    Reply reply = world.say(*call.process, "recv " + text(call.number->layer) + " 1048576 0 pt");
+    return reply.ok() ? reply.number(1) : 0;
+}
+
+// How much the other end hasn't read.
+static long unread_by_peer(const World &world, const Description &own) {
+    auto peer = world.files.find(world.layer->holders()[own.id].peer);
+    return peer == world.files.end() ? 0 : peer->second->told.bytes;
+}
+
 // FIONREAD: what a receive would find. TIOCOUTQ: what the other end hasn't read.
 Result answer_queue_size(World &world, Call &call) {
-    Description &own = *call.number->file;
+    const Description &own = *call.number->file;
     bool reads = call.data.args[1] == FIONREAD;
     if (own.listening && reads) return fail(EINVAL);
-    auto reader = reads ? std::optional<Watched>(Watched{&own, call.process->layer, call.number->layer}) : world.watched(own.peer);
-    int value = 0;
-    if (reader) {
-        Reply reply = world.layer->make(reader->process, "recv " + text(reader->number) + " 1048576 0 pt");
-        if (reply.ok()) value = (int)reply.number(1);
-    }
+    long found = !reads ? unread_by_peer(world, own) : own.kind == DATAGRAM ? first_datagram(world, call) : own.told.bytes;
+    int value = (int)found;
     return write_value(call.task, call.data.args[2], value) ? done(0) : fail(EFAULT);
 }

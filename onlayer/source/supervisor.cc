@@ -27,31 +27,16 @@ static bool is_same(const seccomp_data &one, const seccomp_data &other) {
     return one.nr == other.nr && !memcmp(one.args, other.args, sizeof one.args);
 }
 
-// Goes on with a call that a signal has interrupted; true where it is answered by that.
-bool Supervisor::resume(Call &call) {
-    for (size_t i = 0; i < world.waiting.size(); i++) {
-        Call &before = world.waiting[i];
-        if (before.task != call.task) continue;
-        if (is_same(before.data, call.data)) {
-            u64 id = call.id;
-            int listener = call.listener;
-            call = std::move(before);
-            call.id = id, call.listener = listener;
-        }
-        world.waiting.erase(world.waiting.begin() + i);
-        break;
+// Whether a signal has interrupted the task in this call before: it goes on then. Another call has taken the place of that one.
+bool Supervisor::comes_again(const seccomp_notif &told, int listener) {
+    auto found = world.calls.find((int)told.pid);
+    if (found == world.calls.end()) return false;
+    if (!is_same(found->second.data, told.data)) {
+        world.end((int)told.pid);
+        return false;
     }
-    auto kept = world.undelivered.find(call.task);
-    if (kept == world.undelivered.end()) return false;
-    Undelivered rest = std::move(kept->second);
-    world.undelivered.erase(kept);
-    if (!is_same(rest.data, call.data)) return false;
-    Result result = rest.result ? *rest.result : world.deliver(call, std::move(rest.rest));
-    result.raises_sigpipe = false;
-    world.settle();
-    world.answer(call, result);
-    world.let_go(std::move(call.number));
-    if (result.way != Result::LATER) tracer.send_put_off(call.task);
+    found->second.listener = listener;
+    world.renew(found->second, told.id);
     return true;
 }
 
@@ -60,36 +45,36 @@ static bool parts_tables(const Call &call) {
     return call.nr() == SYS_unshare || (call.nr() == SYS_close_range && call.argument(2) & CLOSE_RANGE_UNSHARE);
 }
 
+// The task's process, with which it may have a table of its own from this call on.
+Process *Supervisor::process_of(const Call &call) {
+    if (!world.by_task.count(call.task)) tracer.reap();
+    if (world.by_task.count(call.task) && parts_tables(call)) tracer.split(call.task);
+    return world.process_of(call.task);
+}
+
 void Supervisor::take_notification(int listener) {
     seccomp_notif told;
     memset(&told, 0, sizeof told);
     if (ioctl(listener, SECCOMP_IOCTL_NOTIF_RECV, &told)) return;
-    Call call;
-    call.listener = listener, call.id = told.id, call.task = (int)told.pid, call.data = told.data;
-    if (!world.by_task.count(call.task)) tracer.reap();
-    auto found = world.by_task.find(call.task);
-    if (found == world.by_task.end()) {
+    int task = (int)told.pid;
+    if (!comes_again(told, listener)) {
+        Call &call = world.calls[task];
+        call.id = told.id, call.listener = listener, call.task = task, call.data = told.data;
+        call.process = process_of(call);
+        begin(call);
+    }
+    auto left = world.calls.find(task);
+    if (left == world.calls.end() || left->second.state == Call::ENDED) tracer.send_put_off(task);
+}
+
+void Supervisor::begin(Call &call) {
+    if (!call.process) {
         world.complain("a call of an unknown task " + text(call.task) + " is let through");
-        return world.answer(call, pass());
+        return world.let_through(call);
     }
-    call.process = found->second;
-    if (told.data.arch != AUDIT_ARCH_X86_64 || told.data.nr & 0x40000000) return world.stop_foreign(*call.process);
-    if (resume(call)) return;
-    if (parts_tables(call)) tracer.split(call.task), call.process = world.by_task[call.task];
-    unsigned long lines = world.layer->calls();
+    if (call.data.arch != AUDIT_ARCH_X86_64 || call.nr() & 0x40000000) return world.stop_foreign(*call.process);
     if (world.options.verbose) world.layer->note(world.title(*call.process) + " " + call_name(call.nr()) + " " + text(call.argument(0)));
-    Result result = world.handle(call);
-    if (result.way != Result::PASS || world.layer->calls() != lines) world.counts.answered++, world.counts.by_call[call.nr()]++;
-    else world.counts.passed++;
-    int task = call.task;
-    if (result.way == Result::WAIT) {
-        world.waiting.push_back(std::move(call));
-        return world.settle();
-    }
-    world.settle();                            // what it changed is shown before it is answered
-    world.answer(call, result);
-    world.let_go(std::move(call.number));
-    if (result.way != Result::LATER) tracer.send_put_off(task);
+    world.begin(call);
 }
 
 void Supervisor::take_signals() {
@@ -102,14 +87,18 @@ void Supervisor::take_signals() {
     tracer.reap();
 }
 
-static bool may_come_from_outside(const World &world, const Call &call) {
-    const Description &own = *call.number->file;
-    return own.gate || (own.peer && world.outside->has_bridge(own.peer));
+static bool may_come_from_outside(const World &world, std::map<int, Held> &holders, const Description &own) {
+    return own.gate || world.outside->has_bridge(holders[own.id].peer);
 }
 
 void Supervisor::look_for_deadlock(bool was_idle) {
-    bool all_wait = was_idle && !world.waiting.empty() && world.waiting.size() == world.by_task.size() && world.next_deadline() > 1e17;
-    for (const Call &call : world.waiting) all_wait = all_wait && !may_come_from_outside(world, call);
+    size_t waiting = 0;
+    for (auto &[task, call] : world.calls) waiting += call.waits();
+    bool all_wait = was_idle && waiting && waiting == world.by_task.size() && world.next_deadline() > 1e17;
+    std::map<int, Held> holders;
+    if (all_wait) holders = world.layer->holders();
+    for (auto &[task, call] : world.calls)
+        all_wait = all_wait && !(call.waits() && may_come_from_outside(world, holders, *call.number->file));
     if (all_wait && !told_deadlock) report_deadlock(world);
     told_deadlock = all_wait;
 }

@@ -12,7 +12,9 @@ class Supervisor {
     bool told_deadlock = false;
 
     void take_notification(int listener);
-    bool resume(Call &call);
+    bool comes_again(const seccomp_notif &told, int listener);
+    Process *process_of(const Call &call);
+    void begin(Call &call);
     void take_signals();
     void look_for_deadlock(bool was_idle);
     void handle_event(const epoll_event &event);

@@ -27,7 +27,7 @@ std::string hex(const std::string &bytes) {
     return out;
 }
 
-std::string unhex(const std::string &digits) {
+std::string unhex(std::string_view digits) {
     if (digits == "-") return "";
     auto value = [](char digit) { return digit <= '9' ? digit - '0' : digit - 'a' + 10; };
     std::string out(digits.size() / 2, 0);

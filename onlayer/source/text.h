@@ -2,6 +2,7 @@
 #pragma once
 #include <stdexcept>
 #include <string>
+#include <string_view>
 #include <vector>
 
 // A failure of onlayer's own, which ends it.
@@ -13,7 +14,7 @@ std::vector<std::string> split(const std::string &text, char by = ' ');
 inline std::string text(long number) { return std::to_string(number); }
 
 std::string hex(const std::string &bytes);
-std::string unhex(const std::string &digits);
+std::string unhex(std::string_view digits);
 
 // The NAME of a script, in which `%` and two digits stand for a byte.
 std::string name_word(const std::string &bytes);

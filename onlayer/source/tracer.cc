@@ -60,11 +60,14 @@ void Tracer::split(int task) {
 
 void Tracer::close_on_exec(Process &process, int task) {
     std::vector<int> closed;
+    std::vector<std::string> lines;
+    if (process.table.empty()) return;
     for (auto &[number, entry] : process.table)
         if (!entry->file->shown || !same_file(task, number, entry->file->shown.get())) closed.push_back(number);
-    for (int number : closed) world.layer->make(process.layer, "flags " + text(process.table[number]->layer) + " x");
-    if (!process.table.empty()) world.layer->make(process.layer, "exec");
-    for (int number : closed) world.drop(process, number, false);
+    for (int number : closed) lines.push_back("flags " + text(process.table[number]->layer) + " x");
+    lines.push_back("exec");
+    world.layer->make_all(process.layer, lines);
+    world.drop(process, closed, false);
 }
 
 void Tracer::note_inherited(Process &process) {
@@ -78,8 +81,10 @@ void Tracer::executed(int task, int before) {
     Process *process = found != world.by_task.end() ? found->second : world.by_task[task];
     std::set<int> others = process->tasks;
     for (int other : others) {
-        if (other == before || other == task) continue;
-        if (status_of(other).group == task) world.by_task.erase(other), process->tasks.erase(other);
+        bool is_old = other == before || other == task;
+        if (!is_old && status_of(other).group != task) continue;
+        world.end(other);                      // the threads are gone, and what they waited for with them
+        if (!is_old) world.by_task.erase(other), process->tasks.erase(other);
     }
     if (before != task) world.by_task.erase(before), process->tasks.erase(before), process->tasks.insert(task);
     world.by_task[task] = process;
@@ -100,15 +105,12 @@ void Tracer::ended(int task) {
     Process &process = *found->second;
     world.by_task.erase(found);
     process.tasks.erase(task);
-    world.end_wait_of(task);
-    world.undelivered.erase(task);
+    world.end(task);
     copies.erase(task), put_off.erase(task), sent_again.erase(task);
     if (process.tasks.empty()) {
-        if (process.pid == root) calls_at_end = world.layer->calls() + world.layer->polls();
+        if (process.pid == root) calls_at_end = world.layer->calls();
         if (process.layer) world.layer->make(process.layer, "exit"), world.layer->note("process " + text(process.pid) + " has exited");
-        auto table = std::move(process.table);
         process.table.clear();
-        for (auto &[number, entry] : table) entry->file->holders.erase({process.layer, entry->layer});
     }
     world.settle();
 }
@@ -207,35 +209,23 @@ static bool is_caught(int task, int signal) {
 
 // A handler is about to run in a task that waits: the call ends with what it has.
 void Tracer::interrupt(int task, int signal) {
-    for (size_t i = 0; i < world.waiting.size(); i++) {
-        if (world.waiting[i].task != task) continue;
-        if (!is_caught(task, signal)) return;  // it goes on as if nothing had come
-        Call call = std::move(world.waiting[i]);
-        world.waiting.erase(world.waiting.begin() + i);
-        call.interrupted = true;
-        bool has_limit = call.deadline < 1e17;
-        Result result = world.handle(call);
-        if (result.error == EAGAIN && has_limit) result = fail(EINTR);
-        if (result.way == Result::DONE && result.error != EAGAIN) world.undelivered[task] = {call.data, {}, result};
-        world.let_go(std::move(call.number));
-        world.settle();
-        return;
-    }
+    auto found = world.calls.find(task);
+    if (found != world.calls.end() && found->second.waits() && is_caught(task, signal)) world.interrupt(found->second);
 }
 
 // The answer of a call that a signal has interrupted is put in its place; true where the signal has to wait for more.
 bool Tracer::answer_at_signal(int task) {
-    auto found = world.undelivered.find(task);
-    if (found == world.undelivered.end()) return false;
+    auto found = world.calls.find(task);
+    if (found == world.calls.end() || found->second.waits()) return false;
+    const Call &call = found->second;
     user_regs_struct registers;
     ptrace(PTRACE_GETREGS, task, 0, &registers);
-    if ((long)registers.rax != RESTART || (int)registers.orig_rax != found->second.data.nr) return false;
-    if (!found->second.result || found->second.result->way == Result::PASS) return true;
-    const Result &result = *found->second.result;
-    registers.rax = result.error ? -result.error : result.value;
+    if ((long)registers.rax != RESTART || (int)registers.orig_rax != call.nr()) return false;
+    if (call.state != Call::ENDED || call.result.way == Result::PASS) return true;
+    registers.rax = call.result.error ? -call.result.error : call.result.value;
     registers.orig_rax = -1;
     ptrace(PTRACE_SETREGS, task, 0, &registers);
-    world.undelivered.erase(found);
+    world.calls.erase(found);
     return false;
 }
 

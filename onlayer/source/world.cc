@@ -28,23 +28,13 @@ static int read_setting(const char *path, int otherwise) {
 World::World(std::unique_ptr<Layer> the_layer, const Options &the_options)
     : layer(std::move(the_layer)), options(the_options), events(epoll_create1(EPOLL_CLOEXEC)) {
     own_user = geteuid(), own_group = getegid();
-    if (options.order) order.seed(*options.order);
+    if (options.order) layer->order(*options.order);
     send_maximum = read_setting("/proc/sys/net/core/wmem_max", send_maximum);
     receive_maximum = read_setting("/proc/sys/net/core/rmem_max", receive_maximum);
-    layer->on_closed = [this](int object) { objects.erase(object); };
-    layer->on_conditions = [this](Description *file, unsigned conditions) {
-        placeholders.show(*file, conditions);
-        touched[file] = true;
-    };
+    layer->on_told = [this](int description, const Told &told) { take_told(description, told); };
 }
 
-World::~World() {
-    waiting.clear();
-    undelivered.clear();
-    outside.reset();
-    for (auto &process : processes) process->table.clear();
-    objects.clear();
-}
+World::~World() { calls.clear(); }
 
 // ---- processes
 
@@ -123,87 +113,47 @@ int World::guest(uid_t user, gid_t group) {
     return number;
 }
 
-// ---- calls of the layer
-
-std::optional<Watched> World::watched(Description *file) const {
-    if (!file || !file->is_socket() || file->holders.empty()) return {};
-    Holder holder = *file->holders.begin();
-    return Watched{file, holder.process, holder.number};
-}
-
 Reply World::say(Process &process, const std::string &words) {
     sync_ids(process);
     return layer->make(process.layer, words);
 }
 
+std::vector<Reply> World::say_all(Process &process, const std::vector<std::string> &calls) {
+    sync_ids(process);
+    return layer->make_all(process.layer, calls);
+}
+
 // ---- open files
 
-Ref World::make(Kind kind) {
-    Ref file(new Description(kind, next_description++), [this](Description *gone) { forget(gone), delete gone; });
-    descriptions.insert(file.get());
+Ref World::make(Kind kind, int description) {
+    Ref file = std::make_shared<Description>(kind, description);
     file->send_room = file->receive_room = LINUX_ROOM;
+    auto told = newcomers.extract(description);
+    if (!told) return file;                    // it is gone already
+    file->told = told.mapped();
+    files[description] = file;
+    changed.insert(file);
     return file;
 }
-void World::touch(Description *file) {
-    if (file) touched.emplace(file, false);
+
+void World::take_told(int description, const Told &told) {
+    auto found = files.find(description);
+    if (found == files.end()) {
+        if (told.is_gone) newcomers.erase(description);
+        else newcomers[description] = told;
+        return;
+    }
+    Ref file = found->second;
+    if (told.is_gone) return forget(file);
+    file->has_arrived = file->has_arrived || told.bytes > file->told.bytes || told.messages > file->told.messages;
+    file->told = told;
+    changed.insert(file);
 }
 
-void World::know(Description *file, unsigned conditions) {
-    placeholders.show(*file, conditions);
-    bool is_first = touched.emplace(file, true).second;    // a look that is asked for stays so
-    auto one = options.looks && (is_first || touched[file]) ? watched(file) : std::nullopt;
-    if (!one) return;
-    layer->look({*one});
-    if (file->conditions != conditions)
-        throw Fault("socket " + text(file->id) + " should have the conditions " + text(conditions) + ", and the layer tells " + text(file->conditions));
-}
-
-static void touch_senders(World &world, Description *sender, const Description &target) {
-    world.touch(sender);
-    for (Description *follower : target.followers) world.touch(follower);
-}
-
-// A send has reached the target: its input is known without a look, and so is whether the sender has room for more.
-void World::arrived(Description *sender, Description &target, long n) {
-    bool had_input = target.shown_conditions & IN;
-    target.unread += target.is_stream() ? n : 1;
-    bool is_full = !target.has_room();
-    if (is_full && !target.is_connection()) touch_senders(*this, sender, target);    // the target itself may be one of them
-    know(&target, target.conditions | IN);
-    if (had_input) placeholders.arrive(target);
-    if (is_full && target.is_connection() && sender) know(sender, sender->conditions & ~OUT);
-}
-
-// What a receive has left: where nothing is shut, gone or reset, input is what the queue has.
-void World::received(Description &own, const Reply &reply, bool peeks) {
-    if (reply.error == EAGAIN || (reply.ok() && peeks)) return;
-    bool is_message = reply.word(3).find("EOR") != std::string::npos || (own.kind == DATAGRAM && reply.word(5) != "-");
-    bool took = reply.ok() && (own.is_stream() ? reply.number(1) > 0 : is_message), had_room = own.has_room();
-    if (took) own.unread -= own.is_stream() ? reply.number(1) : 1;
-    if (!took || own.conditions & (RDHUP | HUP | ERR)) touch(&own);
-    else if (!own.unread) know(&own, own.conditions & ~IN);
-    if (!took || had_room) return;
-    if (own.is_connection() && own.peer) return know(own.peer, own.peer->conditions | OUT);
-    touch_senders(*this, nullptr, own);        // it may be its own
-    know(&own, own.conditions);                // who waits for room here goes on
-}
-
-bool World::is_empty(const Description &own) const {
-    bool is_known = !touched.count(const_cast<Description *>(&own)), is_tied = own.is_connection() && own.connected && own.peer;
-    return is_known && is_tied && !own.unread && !(own.conditions & (IN | RDHUP | HUP | ERR));
-}
-
-void World::forget(Description *file) {
-    descriptions.erase(file);
-    touched.erase(file);
-    if (file->gate && outside) outside->forget_gate(file);
-    for (auto &rights : file->passing) counts.dropped_rights += rights.size();
-    for (Description *follower : file->followers) follower->peer = nullptr, touch(follower);
-    touch(file->peer);
-    if (file->peer) file->peer->followers.erase(file);
-    if (!file->name.empty()) names.lose_socket(file->name, file);
-    for (Call &call : waiting)
-        if (call.on == file) call.on = nullptr;
+void World::forget(Ref file) {
+    files.erase(file->id);
+    if (file->gate && outside) outside->forget_gate(file.get());
+    if (!file->name.empty()) names.lose_socket(file->name, file.get());
 }
 
 void World::note_number(const Process &process, int number, const Number *entry) {
@@ -212,29 +162,28 @@ void World::note_number(const Process &process, int number, const Number *entry)
 }
 
 void World::enter(Process &process, int number, const Ref &file, int layer_number) {
-    if (process.table.count(number)) drop(process, number);
+    if (process.table.count(number)) drop(process, {number});
     process.closing.erase(number);
     auto entry = std::make_shared<Number>(Number{&process, file, layer_number});
-    file->holders.insert({process.layer, layer_number});
     note_number(process, number, entry.get());
     process.table[number] = std::move(entry);
 }
 
-// The program's number is open no more.
-void World::drop(Process &process, int number, bool closes_in_layer) {
-    auto found = process.table.find(number);
-    if (found == process.table.end()) return;
-    NumberRef entry = std::move(found->second);
-    process.table.erase(found);
-    note_number(process, number, nullptr);
-    let_go(std::move(entry), closes_in_layer);
+// The program's numbers are open no more. A call that waits keeps its number in the layer until it ends, as the kernel keeps
+// the open file.
+void World::drop(Process &process, const std::vector<int> &numbers, bool closes_in_layer) {
+    std::vector<std::string> closes;
+    for (int number : numbers) {
+        auto found = process.table.extract(number);
+        if (!found) continue;
+        note_number(process, number, nullptr);
+        if (closes_in_layer && found.mapped().use_count() == 1) closes.push_back("close " + text(found.mapped()->layer));
+    }
+    layer->make_all(process.layer, closes);
 }
 
-// A call that waits keeps its number in the layer until it ends, as the kernel keeps the open file.
-void World::let_go(NumberRef entry, bool closes_in_layer) {
-    if (!entry || entry.use_count() > 1) return;
-    if (closes_in_layer) layer->make(entry->process->layer, "close " + text(entry->layer));
-    entry->file->holders.erase({entry->process->layer, entry->layer});
+void World::let_go(NumberRef entry) {
+    if (entry && entry.use_count() == 1) layer->make(entry->process->layer, "close " + text(entry->layer));
 }
 
 NumberRef World::find(Call &call, int number) {
@@ -253,7 +202,7 @@ NumberRef World::find(Call &call, int number) {
     counts.out_of_step++;
     layer->note("OUT OF STEP: " + text(call.process->pid) + " " + text(number));
     entry.reset();
-    drop(*call.process, number);
+    drop(*call.process, {number});
     return nullptr;
 }
 NumberRef World::find_socket(Call &call, int number) {
@@ -276,9 +225,7 @@ bool World::is_being_closed(Call &call, int number) {
 void World::limit_queue(Process &process, Description &file, int number) {
     if (!options.queue_limit || !file.is_stream() || file.has_limit) return;
     file.has_limit = true;
-    file.queue_room = options.queue_limit;
     say(process, "setopt " + text(number) + " qlimit " + text(options.queue_limit));
-    touch(file.peer);
 }
 
 int World::give(Call &call, const Gift &gift) {
@@ -291,7 +238,6 @@ int World::give(Call &call, const Gift &gift) {
     if (number >= 0) {
         enter(*call.process, number, gift.file, gift.layer);
         limit_queue(*call.process, *gift.file, gift.layer);
-        touch(gift.file.get());
         return number;
     }
     int error = errno;
@@ -299,26 +245,26 @@ int World::give(Call &call, const Gift &gift) {
     return -error;
 }
 
-// Gives what a call has made, and finishes it; where a signal comes between, behind it.
-Result World::deliver(Call &call, Delivery rest) {
-    while (rest.numbers.size() < rest.gifts.size()) {
-        int number = give(call, rest.gifts[rest.numbers.size()]);
-        if (number == -ENOENT || number == -EINPROGRESS) {
+// Gives what a call has made; where a signal comes between, the rest when the call comes again.
+Task<std::vector<int>> World::deliver(Call &call, std::vector<Gift> gifts) {
+    std::vector<int> numbers;
+    for (const Gift &gift : gifts) {
+        int number = give(call, gift);
+        while (number == -ENOENT || number == -EINPROGRESS) {
             counts.put_off++;
-            undelivered[call.task] = {call.data, std::move(rest), {}};
-            return {Result::LATER};
+            co_await Stop{call, Call::GIVES};
+            number = give(call, gift);
         }
-        rest.numbers.push_back(number);
+        numbers.push_back(number);
     }
-    return rest.finish(call, rest.numbers);
+    co_return numbers;
 }
 
-// The number of a process that has this held file already.
-int World::find_held(Call &call, int number) {
-    for (auto &[object, file] : objects)
-        for (const Holder &holder : file->holders)
-            if (holder.process == call.process->layer && file->shown && same_file(call.task, number, file->shown.get())) return holder.number;
-    return -1;
+// The number by which a process has this held file already.
+NumberRef World::find_held(Call &call, int number) {
+    for (auto &[real, entry] : call.process->table)
+        if (!entry->file->is_socket() && same_file(call.task, number, entry->file->shown.get())) return entry;
+    return nullptr;
 }
 
 // A file of the program's is an opaque one in the layer: a memory file, or where it has no more of them a socket without a name.
@@ -328,10 +274,9 @@ Ref World::hold(int layer_process, File file, const std::string &what, int &laye
     if (reply.error == ENFILE) reply = layer->make(layer_process, "socket dgram -");
     layer_number = reply.ok() ? (int)reply.number(1) : -reply.error;
     if (!reply.ok()) return nullptr;
-    Ref held = make(OPAQUE);
+    Ref held = make(OPAQUE, reply.description());
     held->shown = std::move(file);
-    if (is_object) held->object = next_object++, objects[held->object] = held;
-    layer->note("object " + text(held->object) + " is " + what);
+    layer->note("object " + text(is_object ? next_object++ : -1) + " is " + what);
     return held;
 }
 
@@ -341,18 +286,13 @@ int World::adopt(Call &call, int number) {
     File file = take_file(process.pid, number);
     if (!file) return -EBADF;
     sync_ids(process);
-    int known = find_held(call, number), layer_number = -1;
-    if (known >= 0) {
-        Ref held;
-        for (auto &[object, one] : objects)
-            if (one->holders.count({process.layer, known})) held = one;
-        Reply reply = say(process, "dup " + text(known));
+    if (NumberRef known = find_held(call, number)) {
+        Reply reply = say(process, "dup " + text(known->layer));
         if (!reply.ok()) return -reply.error;
-        enter(process, number, held, (int)reply.number(1));
+        enter(process, number, known->file, (int)reply.number(1));
         return (int)reply.number(1);
     }
-    Ref held = hold(process.layer, std::move(file), link_of(process.pid, number), layer_number);
-    if (!held) return layer_number;
-    enter(process, number, held, layer_number);
+    int layer_number = -1;
+    if (Ref held = hold(process.layer, std::move(file), link_of(process.pid, number), layer_number)) enter(process, number, held, layer_number);
     return layer_number;
 }

@@ -1,8 +1,5 @@
-// What the supervisor knows: processes, their numbers, the open files behind them, names, and who waits.
+// What the supervisor knows: processes, their numbers, the placeholders behind them, names, and who waits.
 #pragma once
-#include <memory>
-#include <optional>
-#include <random>
 #include "call.h"
 #include "names.h"
 #include "options.h"
@@ -12,8 +9,7 @@
 
 struct Counts {
     unsigned long answered = 0, passed = 0, refused = 0, outside = 0, guests = 0, failed = 0, put_off = 0, out_of_step = 0;
-    unsigned long dropped_rights = 0;          // in messages that nobody received
-    std::map<int, unsigned long> by_call;
+    unsigned long rights_sent = 0, rights_received = 0;
 };
 
 // A listening socket that a program found open at its exec.
@@ -23,28 +19,42 @@ struct Inherited {
     bool used = false;
 };
 
-struct Undelivered {                           // the rest of a call that a signal has interrupted
-    seccomp_data data;
-    Delivery rest;
-    std::optional<Result> result;
+class Outside;
+class World;
+
+// A call stops here, until it is resumed: `state` says by what.
+struct Stop {
+    Call &call;
+    Call::State state;
+
+    bool await_ready() const { return false; }
+    void await_suspend(std::coroutine_handle<> at) { call.at = at, call.state = state; }
+    void await_resume() const {}
 };
 
-class Outside;
-
 class World {
-    std::map<Description *, bool> touched;     // whose conditions may have changed; true: they are known already
+    std::map<int, Told> newcomers;             // what was told of descriptions that have no file here yet
+    std::set<Ref> changed;                     // files whose placeholders don't show yet what was told
+    std::map<unsigned, std::function<void(Reply)>> pending;    // calls of the layer, by their number
     std::set<std::string> complaints;
-    int next_description = 0, next_object = 0;
+    unsigned last_pending = 0;
+    int next_object = 0;
+    bool is_settling = false;
 
-    void forget(Description *file);
+    void take_told(int description, const Told &told);
+    void forget(Ref file);
     void enlist(Process &process);
     void sync_ids(Process &process);
-    bool can_go_on(const Call &call, const std::map<Description *, bool> &changed) const;
-    void look_at_touched(const std::map<Description *, bool> &changed);
     int give(Call &call, const Gift &gift);
-    int find_held(Call &call, int number);
-    void raise_sigpipe(Call &call, const Result &result);
+    NumberRef find_held(Call &call, int number);
+    void raise_sigpipe(Call &call);
     void limit_queue(Process &process, Description &file, int number);
+    void set_deadline(Call &call, int limit_option) const;
+    bool go_on(Call &call);
+    void resume(Call &call, Reply reply);
+    void answer(Call &call);
+    void show_changed();
+    bool answer_next();
 
 public:
     std::unique_ptr<Layer> layer;
@@ -55,16 +65,13 @@ public:
     Counts counts;
     File events;                               // epoll of all that the supervisor waits for
     std::map<int, File> listeners;             // of the filters' notifications
-    std::set<Description *> descriptions;
-    std::map<int, Ref> objects;                // held files, by their number in the layer
+    std::map<int, Ref> files;                  // by the layer's number
     std::map<int, Process *> by_task;
     std::vector<std::unique_ptr<Process>> processes;
     std::map<int, Process *> by_layer;
     std::map<int, int> guest_pids;             // of programs outside, by the layer's number
-    std::vector<Call> waiting;
-    std::map<int, Undelivered> undelivered;    // by task
+    std::map<int, Call> calls;                 // that have begun, by task
     std::vector<std::pair<std::weak_ptr<Number>, Inherited>> inherited;
-    std::mt19937 order;
     uid_t own_user = 0;
     gid_t own_group = 0;
     int send_maximum = 212992, receive_maximum = 212992;
@@ -83,18 +90,18 @@ public:
 
     // calls of the layer
     Reply say(Process &process, const std::string &words);
-    std::optional<Watched> watched(Description *file) const;
+    std::vector<Reply> say_all(Process &process, const std::vector<std::string> &calls);
+    // Made as soon as it needn't wait; EAGAIN where the program doesn't wait, or no longer.
+    Task<Reply> ask(Call &call, std::string words, unsigned flags, int limit_option);
+    unsigned pend(int process, const std::string &words, std::function<void(Reply)> then);
+    void cancel(unsigned pended);
 
     // open files and numbers
-    Ref make(Kind kind);
-    void touch(Description *file);
-    void know(Description *file, unsigned conditions);     // without a look
-    void arrived(Description *sender, Description &target, long n);
-    void received(Description &own, const Reply &reply, bool peeks);
-    bool is_empty(const Description &own) const;           // a receive would wait
+    Ref make(Kind kind, int description);
+    void touch(const Ref &file) { changed.insert(file); }      // its placeholder is shown anew
     void enter(Process &process, int number, const Ref &file, int layer_number);
-    void drop(Process &process, int number, bool closes_in_layer = true);
-    void let_go(NumberRef number, bool closes_in_layer = true);
+    void drop(Process &process, const std::vector<int> &numbers, bool closes_in_layer = true);
+    void let_go(NumberRef number);
     NumberRef find(Call &call, int number);
     NumberRef find_socket(Call &call, int number);
     int adopt(Call &call, int number);         // the layer's number of a file that is passed; an error below 0
@@ -103,9 +110,11 @@ public:
     bool is_being_closed(Call &call, int number);
 
     // answers
-    Result handle(Call &call);
-    Result deliver(Call &call, Delivery delivery);
-    void answer(Call &call, Result result);
+    void begin(Call &call);                    // settled and answered, or kept where it waits
+    void let_through(Call &call);              // without a look at it
+    void renew(Call &call, u64 id);            // a signal has interrupted it, and the kernel begins it anew
+    std::optional<Result> handle(Call &call);  // none: it has work that may wait
+    Task<std::vector<int>> deliver(Call &call, std::vector<Gift> gifts);    // the program's numbers; errors below 0
     Result refuse(Call &call, int error, const std::string &why);
     void stop_foreign(Process &process);       // its calls have other numbers, and can't be answered
     void listen_to(File listener);
@@ -113,11 +122,12 @@ public:
     void complain(const std::string &line);
 
     // waiting
-    Result wait(Call &call, Description *on, Until until, unsigned flags, int limit_option);
     static bool waits(const Call &call, unsigned flags);
-    void settle();
-    void attempt(Call call);
+    // For a time, or until the call is cut off; EAGAIN then, and where the program doesn't wait.
+    Task<int> pause(Call &call, double seconds, unsigned flags, int limit_option);
+    void settle();                             // shows what was told, and lets go on what was answered
+    void interrupt(Call &call);                // a handler is about to run: the call ends with what it has
+    void end(int task);                        // nobody waits for it any more
     double next_deadline() const;
     void time_out();
-    void end_wait_of(int task);
 };

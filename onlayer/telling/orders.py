@@ -22,6 +22,7 @@ SHOWN = 20                                     # differences of one kind
 def options():
     found = argparse.ArgumentParser(description=__doc__)
     found.add_argument("--onlayer", required=True)
+    found.add_argument("--uxserve", required=True)
     found.add_argument("--uxrun", required=True)
     found.add_argument("--count", type=int, required=True)
     found.add_argument("--json", action="store_true")
@@ -31,13 +32,13 @@ def options():
 
 
 def replies_of(uxrun, script):
-    """What each process asked and was answered, its polls left out."""
+    """What each process asked and was answered."""
     session = Session(script)
     echo = subprocess.run([uxrun, "--echo", script], capture_output=True, text=True).stdout
     titles, seen, replies = {}, defaultdict(int), defaultdict(list)
     for line in echo.split("\n"):
         found = re.match(r"(?:\d+|-) (\d+) (\w+)(\(.*\)) = (.*)$", line)
-        if not found or found[2] == "poll":
+        if not found:
             continue
         process = int(found[1])
         if process not in titles:
@@ -50,7 +51,7 @@ def replies_of(uxrun, script):
 
 def run_order(chosen, folder, seed):
     script = f"{folder}/{seed}.ux"
-    command = [chosen.onlayer, "--uxrun", chosen.uxrun, "--quiet", "--order", str(seed), "--script", script, "--log", f"{folder}/{seed}.log"]
+    command = [chosen.onlayer, "--uxserve", chosen.uxserve, "--quiet", "--order", str(seed), "--script", script, "--log", f"{folder}/{seed}.log"]
     words = chosen.command[1:] if chosen.command[:1] == ["--"] else chosen.command
     run = subprocess.run(command + chosen.further + ["--"] + words, stdin=subprocess.DEVNULL, capture_output=True)
     return {"seed": seed, "status": run.returncode, "output": run.stdout.decode(errors="replace"),
