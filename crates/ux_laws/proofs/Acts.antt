@@ -140,7 +140,7 @@ pub data Did (S : State) (p tag : ℕ) (request : Request) (reply : Reply) (U : 
       Shrinks (with_new S (file_description (next_object S) mode flags)) U → Did S p tag request reply U
   pipe_made : (flags : OpenFlags) → made_modes request ≡ Mode.Read ∷ Mode.Write ∷ [] → is_silent reply ≡ true →
       Shrinks (with_ends S flags) U → Did S p tag request reply U
-  one_made : (kind : SockType) (flags : OpenFlags) → is_silent reply ≡ true →
+  one_made : (kind : SockType) (flags : OpenFlags) → request ≡ Request.Socket kind flags → is_silent reply ≡ true →
       Shrinks (with_new S (socket_description flags (new_socket kind))) U → Did S p tag request reply U
   pair_made : (kind : SockType) (flags : OpenFlags) (P : Process) (a b : Fd) → request ≡ Request.SocketPair kind flags →
       reply ≡ Reply.Fds a b → process_at S p ≡ Some P →
@@ -174,7 +174,7 @@ did_after S U T p tag request reply (quiet a b) g = quiet (shrunk_after S U T a 
 did_after S U T p tag request reply (opened path mode flags o a b c k) g = opened path mode flags o a b c (shrunk_after _ U T k g)
 did_after S U T p tag request reply (file_made mode flags a b k) g = file_made mode flags a b (shrunk_after _ U T k g)
 did_after S U T p tag request reply (pipe_made flags a b k) g = pipe_made flags a b (shrunk_after _ U T k g)
-did_after S U T p tag request reply (one_made kind flags a k) g = one_made kind flags a (shrunk_after _ U T k g)
+did_after S U T p tag request reply (one_made kind flags a b k) g = one_made kind flags a b (shrunk_after _ U T k g)
 did_after S U T p tag request reply (pair_made kind flags P x y a b c k) g = pair_made kind flags P x y a b c (shrunk_after _ U T k g)
 did_after S U T p tag request reply (listened fd backlog P d limit s a b c e f h k) g =
     listened fd backlog P d limit s a b c e f h (shrunk_after _ U T k g)

@@ -88,7 +88,7 @@ did_was S T p tag request reply d q (pipe_made flags a b k) h =
     let long = length_push S.descriptions (Some one) in
     was_new S (with_new S one) two d q (omega (arith, long))
     (λ r g. was_new S S one d r (omega arith) (λ u f. was_itself S d u f) g) (seen_shrunk _ T d q k h)
-did_was S T p tag request reply d q (one_made kind flags a k) h =
+did_was S T p tag request reply d q (one_made kind flags is a k) h =
     was_new S S (socket_description flags (new_socket kind)) d q (omega arith) (λ r g. was_itself S d r g) (seen_shrunk _ T d q k h)
 did_was S T p tag request reply d q (pair_made kind flags P x y a b c k) h =
     let one : Description = socket_description flags (pair_end kind (suc (next_description S)) (own_cred p P)) in
@@ -206,7 +206,7 @@ did_there S T p tag request reply d (pipe_made flags a b k) h =
     let two : Description = file_description (next_object S) Mode.Write flags in
     let long = length_push S.descriptions (Some one) in
     or_new S (with_new S one) two d (omega (arith, long)) (λ g. or_new S S one d (omega arith) (λ f. inl f) g) (there_shrunk _ T d k h)
-did_there S T p tag request reply d (one_made kind flags a k) h =
+did_there S T p tag request reply d (one_made kind flags is a k) h =
     or_new S S (socket_description flags (new_socket kind)) d (omega arith) (λ g. inl g) (there_shrunk _ T d k h)
 did_there S T p tag request reply d (pair_made kind flags P x y a b c k) h =
     let one : Description = socket_description flags (pair_end kind (suc (next_description S)) (own_cred p P)) in
@@ -449,7 +449,7 @@ finds_nobody S T p tag d request reply s through e did = by_did did
     by_did (opened path mode flags o a b c k) = silent_no_count reply c
     by_did (file_made mode flags a b k) = silent_no_count reply b
     by_did (pipe_made flags a b k) = silent_no_count reply b
-    by_did (one_made kind flags a k) = silent_no_count reply a
+    by_did (one_made kind flags is a k) = silent_no_count reply a
     by_did (pair_made kind flags P x y a b c k) = ap is_count b
     by_did (listened fd backlog P t limit u a b c f g h k) = ap is_count b
     by_did (tied_to t target u a b k) = silent_no_count reply a

@@ -143,7 +143,7 @@ flow_of S T p tag request reply (pipe_made flags a b k) =
     let two : Description = file_description (next_object S) Mode.Write flags in
     calm _ (calm_after S (with_new S one) (with_new (with_new S one) two) (calm_new S one refl) (calm_new (with_new S one) two refl))
     (silent b) k
-flow_of S T p tag request reply (one_made kind flags a k) =
+flow_of S T p tag request reply (one_made kind flags is a k) =
     calm _ (calm_new S (socket_description flags (new_socket kind)) refl) (silent a) k
 flow_of S T p tag request reply (pair_made kind flags P x y a b c k) =
     let one : State = with_new S (socket_description flags (pair_end kind (suc (next_description S)) (own_cred p P))) in

@@ -41,10 +41,10 @@ use Rattle.ux_laws.proofs.NoEmpty.{AllHaveBytes, streams_have_bytes, gives_some}
 -- ---- a receive
 
 -- whoever has gone is no socket either
-abbrev PeersGo : State → Socket → Type 0
+abbrev pub PeersGo : State → Socket → Type 0
 PeersGo S s = (peer : ℕ) → peer_of s.phase ≡ Some peer → socket_at S peer ≡ None → description_at S peer ≡ None
 
-peers_go : (S : State) (d : ℕ) (s : Socket) → IsWhole S → socket_at S d ≡ Some s → PeersGo S s
+pub peers_go : (S : State) (d : ℕ) (s : Socket) → IsWhole S → socket_at S d ≡ Some s → PeersGo S s
 peers_go S d s whole here peer to none = at_place (description_at S peer) refl none
   where
     no_peer : (t : Target) → socket_of t ≡ None → target_peer t ≡ None

@@ -17,10 +17,12 @@ pub mod Packets
 pub mod Whole
 pub mod Installing
 pub mod Spent
+pub mod NoRights
 pub mod Near
 pub mod LeftAlone
 pub mod OwnNames
 pub mod NamesLeft
+pub mod Bound
 pub mod Ended
 pub mod Telling
 pub mod Resetting
@@ -30,10 +32,16 @@ pub mod WaitEnds
 pub mod AcceptWaits
 pub mod SendWaits
 pub mod ConnectWaits
+pub mod Progress
 pub mod Connections
 pub mod Sends
+pub mod Wakes
+pub mod Rooms
 pub mod Writes
+pub mod FileReads
+pub mod FileWaits
 pub mod Offsets
+pub mod NewNames
 pub mod Openings
 pub mod Unprivileged
 mod Play
@@ -45,5 +53,8 @@ mod FileExample
 mod WriteExample
 mod EndExample
 mod InputExample
+mod ReadExample
+mod FileWaitExample
+mod NameExample
 mod ReachExample
 mod WaitExample

@@ -253,7 +253,7 @@ did_met boot es e T d q all (pipe_made flags a b k) h =
     (λ old. ⊎_elim {C = Met boot es e d q} (λ w. let none = w.1 in absurd (cc none))
     (λ older. old_met boot es e S d q all older) (seen_new S one d q old))
     (seen_new (with_new S one) two d q (seen_shrunk _ T d q k h))
-did_met boot es e T d q all (one_made kind flags a k) h =
+did_met boot es e T d q all (one_made kind flags is a k) h =
     new_met boot es e (replay boot es) T d (socket_description flags (new_socket kind)) q all
     (λ is. let same : socket_parts (new_socket kind) ≡ q = cc is in
     none_met boot es e d q (sym (ap (λ (r : SocketParts). r.peer_cred) same)) (sym (ap (λ (r : SocketParts). r.tie.listener) same))) k h

@@ -65,7 +65,7 @@ named_other {X} name (e ∷ es) x h = go (same_name e.0 name) (named_other name 
     go false rest = rest
 
 -- each socket of this name in the list has a property
-abbrev OwnNames : (mine : ℕ → Type 0) (name : Name) → List (Name × ℕ) → Type 0
+abbrev pub OwnNames : (mine : ℕ → Type 0) (name : Name) → List (Name × ℕ) → Type 0
 OwnNames mine name [] = Unit {0}
 OwnNames mine name (e ∷ es) = (same_name e.0 name ≡ true → mine e.1) × OwnNames mine name es
 
@@ -128,7 +128,7 @@ named_kept gone name (e ∷ es) d h stays = by_name (same_name e.0 name) refl (n
     by_name false is rest h = skipped (gone e.1) is (rest h stays)
 
 -- a path that isn't taken away
-named_left : (name path : Name) (es : List (Name × PathTarget)) → same_name name path ≡ false →
+pub named_left : (name path : Name) (es : List (Name × PathTarget)) → same_name name path ≡ false →
     named path (without_name name es) ≡ named path es
 named_left name path [] other = refl
 named_left name path (e ∷ es) other = by_name (same_name e.0 name) refl (named_left name path es other)
@@ -144,12 +144,12 @@ named_left name path (e ∷ es) other = by_name (same_name e.0 name) refl (named
 -- ---- a call
 
 -- the call gives socket d, which a number of its process leads to, this name
-record IsAsked (S : State) (p : ℕ) (request : Request) (name : Name) (d : ℕ) : Type 0 where
+pub record IsAsked (S : State) (p : ℕ) (request : Request) (name : Name) (d : ℕ) : Type 0 where
   pub number : ℕ
   pub leads : description_of S p number ≡ Some d
   pub gives : NamesIt S p request d (Addr.Abstract name)
 
-record NamesLeft (S : State) (p : ℕ) (request : Request) (U : State) : Type 0 where
+pub record NamesLeft (S : State) (p : ℕ) (request : Request) (U : State) : Type 0 where
   pub stay : (name : Name) (d : ℕ) → named name S.abstract_names ≡ Some d →
       (named name U.abstract_names ≡ Some d) ⊎ (description_at U d ≡ None)
   pub mine : (name : Name) → named name S.abstract_names ≡ None → OwnNames (IsAsked S p request name) name U.abstract_names
@@ -274,7 +274,7 @@ off_left S p = record {
   paths = λ path other. absurd (false≢true (sym other));
 }
 
-each_left : (S : State) (p tag : ℕ) (request : Request) → NamesLeft S p request (outcome S p tag request).next
+pub each_left : (S : State) (p tag : ℕ) (request : Request) → NamesLeft S p request (outcome S p tag request).next
 unfolding outcome
 each_left S p tag (Request.Bind fd addr) = bind_left S p fd addr
 each_left S p tag (Request.Create path mode flags) = create_left S p path mode flags
@@ -293,7 +293,7 @@ chosen_left S T p tag request reply (failing e f) =
 
 -- ---- what goes at the end of a call
 
-record RoundsLeave (S T : State) : Type 1 where
+pub record RoundsLeave (S T : State) : Type 1 where
   pub stay : (name : Name) (d : ℕ) → named name S.abstract_names ≡ Some d →
       (named name T.abstract_names ≡ Some d) ⊎ (description_at T d ≡ None)
   pub mine : (mine : ℕ → Type 0) (name : Name) → OwnNames mine name S.abstract_names → OwnNames mine name T.abstract_names
@@ -330,7 +330,7 @@ rounds_leave (suc n) S = go (rounds_leave n (drop_all S)) (λ d. rounds_lost n (
     }
     go rest lost false = record { stay = λ name d h. inl h; mine = λ mine name all. all; paths = refl }
 
-settled_leaves : (S : State) → RoundsLeave S (settled S)
+pub settled_leaves : (S : State) → RoundsLeave S (settled S)
 unfolding settled drop_unreferenced
 settled_leaves S = let r = rounds_leave (length S.descriptions) S in
     record { stay = λ name d h. r.stay name d h; mine = λ mine name all. r.mine mine name all; paths = r.paths }

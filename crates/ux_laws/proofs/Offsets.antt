@@ -1,10 +1,10 @@
 -- What changes O_APPEND and the offset of a description that leads to a file object.
-use Rattle.std.proofs.Common.{◌≡◌, ◌≢◌, ◌⊎◌, ℕ, suc, ◌==◌, Bool, true, false, not, ◌&&◌, cond, min, List, length, Option, Some, None}
+use Rattle.std.proofs.Common.{◌≡◌, ◌⊎◌, ℕ, suc, ◌==◌, Bool, true, false, not, ◌&&◌, cond, min, List, length, Option, Some, None}
 use Rattle.std.proofs.Common.{take, ⊎_elim, Result, Ok, Err, option_map, refl, ap, sym, ◌∙◌, subst, inl, inr, arith, slice_get}
 use Rattle.std.specs.Prelude.{ℤ, pos, negsuc, ◌+ℤ◌, nat_lt, is_none}
 use Rattle.std.proofs.lemmas.Bool.{eqb-true, eqb-false, false≢true}
 use Rattle.std.proofs.lemmas.List.{get_or-set_other}
-use Rattle.ux_model.specs.Types.{Fd, OpenFlags, Whence, Request, Reply}
+use Rattle.ux_model.specs.Types.{Errno, Fd, OpenFlags, Whence, Request, Reply}
 use Rattle.ux_model.specs.Places.{place, filled}
 use Rattle.ux_model.specs.Limits.{read_limit, offset_limit}
 use Rattle.ux_model.specs.Flags.{can_read, can_write, no_flags, asks_append, asks_cloexec}
@@ -36,7 +36,7 @@ use Rattle.ux_model.proofs.Steps.NameCalls.{same_descriptions}
 use Rattle.ux_model.proofs.Invariants.Dangling.{nothing_dangles}
 use Rattle.ux_model.proofs.Pedigrees.Moments.{moment}
 use Rattle.ux_model.proofs.Tables.Shows.{by_socket}
-use Rattle.ux_laws.specs.Writes.{StaysOpen, SetsAppend, AppendsStay, moves_through, OffsetsStay}
+use Rattle.ux_laws.specs.Writes.{StaysOpen, SetsAppend, AppendsStay, HasFlags, FlagsAreSet, moves_through, OffsetsStay}
 use Rattle.ux_laws.proofs.Doing.Calls.{step_between}
 use Rattle.ux_laws.proofs.Near.Single.{append_of, append_in, offset_of, offset_in, may_set_flags, may_move, NearAt, stays, reached, new}
 use Rattle.ux_laws.proofs.Near.Single.{gone as dropped, Near}
@@ -226,6 +226,64 @@ appends_stay boot es j d o e D E legal at here is there =
     (chosen_append S b.0 e.pid.0 j d e.request e.reply (nothing_dangles boot (take j es) (front_is_legal boot es j legal)) b.1).told
     D.append E.append (ap append_in here ∙ append_led D o is)
     (lost_append b.0 T d E (subst (λ (V : State). Lost b.0 V d) (sym b.3) (settled_lost b.0 d)) there ∙ append_led E o opened.leads)
+
+-- what F_SETFL leaves at a description
+record Sets (S : State) (p : ℕ) (fd : Fd) (flags : OpenFlags) (reply : Reply) (next : State) : Type 0 where
+  pub has : (d : ℕ) (E : Description) → reply ≡ Reply.Ok → description_of S p fd.0 ≡ Some d → description_at next d ≡ Some E →
+      HasFlags E flags
+
+flags_set : (S : State) (p : ℕ) (fd : Fd) (flags : OpenFlags) →
+    Sets S p fd flags (set_flags S p fd flags).reply (set_flags S p fd flags).next
+unfolding set_flags
+flags_set S p fd flags = found Q S p fd _ (record { has = λ d E told led h. absurd (cc told) }) (λ e D g h. record {
+  has = λ d E told led is.
+      let same : Some e.description ≡ Some d = sym (ap description_in g) ∙ led in
+      let at : e.description ≡ d = cc same in
+      let put : Some E ≡ Some (with_flags flags D) = sym is
+      ∙ in_table (with_description S e.description (with_flags flags D)) p d
+      (filled (table_of S p) fd.0 (with_cloexec (asks_cloexec flags) e))
+      ∙ ap (λ (i : ℕ). description_at (with_description S e.description (with_flags flags D)) i) (sym at)
+      ∙ put_here S e.description D (with_flags flags D) h in
+      let one : E ≡ with_flags flags D = cc put in
+      record { appends = ap (λ (x : Description). x.append) one; blocks_not = ap (λ (x : Description). x.nonblock) one };
+})
+  where
+    Q : Outcome → Type 0
+    Q o = Sets S p fd flags o.reply o.next
+
+-- and is left there at the end of the call
+flags_left : (U T : State) (d : ℕ) (E : Description) (flags : OpenFlags) → Lost U T d → description_at T d ≡ Some E →
+    ((F : Description) → description_at U d ≡ Some F → HasFlags F flags) → HasFlags E flags
+flags_left U T d E flags (unchanged e) h has = has E (sym e ∙ h)
+flags_left U T d E flags (lost e) h has = let clash : None ≡ Some E = sym e ∙ h in absurd (cc clash)
+flags_left U T d E flags (reset r had) h has =
+    let both : Some E ≡ Some (changed (with_reset true) r.description) = sym h ∙ r.left in
+    let one : E ≡ changed (with_reset true) r.description = cc both in
+    let was = has r.description r.there in
+    record {
+      appends = ap (λ (x : Description). x.append) one ∙ was.appends;
+      blocks_not = ap (λ (x : Description). x.nonblock) one ∙ was.blocks_not;
+    }
+
+chosen_set : (S U : State) (p tag d : ℕ) (fd : Fd) (flags : OpenFlags) (reply : Reply) (E : Description) →
+    Chosen S (outcome S p tag (Request.SetFlags fd flags)) reply U → reply ≡ Reply.Ok → description_of S p fd.0 ≡ Some d →
+    description_at U d ≡ Some E → HasFlags E flags
+unfolding outcome
+chosen_set S U p tag d fd flags reply E (own e f) told led h =
+    (flags_set S p fd flags).has d E (sym e ∙ told) led (ap (λ (V : State). description_at V d) (sym f) ∙ h)
+chosen_set S U p tag d fd flags reply E (lacking_memory e may f) told led h =
+    let clash : Reply.Err Errno.ENOMEM ≡ Reply.Ok = sym e ∙ told in absurd (cc clash)
+chosen_set S U p tag d fd flags reply E (failing e f) told led h =
+    let clash : Reply.Err Errno.EIO ≡ Reply.Ok = sym e ∙ told in absurd (cc clash)
+
+pub flags_are_set : FlagsAreSet
+flags_are_set boot es j d e fd flags E legal at request told led there =
+    let S : State = before boot es j in
+    let T : State = before boot es (suc j) in
+    let b = step_between S T e.pid.0 j e.request e.reply e.released (moment boot es j e legal at).steps in
+    flags_left b.0 T d E flags (subst (λ (V : State). Lost b.0 V d) (sym b.3) (settled_lost b.0 d)) there
+    (λ F h. chosen_set S b.0 e.pid.0 j d fd flags e.reply F
+    (subst (λ (r : Request). Chosen S (outcome S e.pid.0 j r) e.reply b.0) request b.1) told led h)
 
 -- ---- the offset
 

@@ -119,7 +119,7 @@ did_leads S T p tag request reply d x (pipe_made flags a b k) h =
     let at = w.0 in
     inr (inr (1, Mode.Write, ap (λ (l : List Mode). slice_get l 1) a, sym same, omega (arith, at, long))))
     (new_leads (with_new S one) two d x (shrunk_leads _ T d x k h))
-did_leads S T p tag request reply d x (one_made kind flags a k) h =
+did_leads S T p tag request reply d x (one_made kind flags is a k) h =
     inl (socket_leads S (socket_description flags (new_socket kind)) d x refl (shrunk_leads _ T d x k h))
 did_leads S T p tag request reply d x (pair_made kind flags P a b c e f k) h =
     let one : Description = socket_description flags (pair_end kind (suc (next_description S)) (own_cred p P)) in
@@ -161,7 +161,7 @@ did_more S T p tag request reply (pipe_made flags a b k) =
     let one : Description = file_description (next_object S) Mode.Read flags in
     let two : Description = file_description (next_object S) Mode.Write flags in
     more_left S _ T k (more_new S (with_new S one) two (more_new S S one (omega arith)))
-did_more S T p tag request reply (one_made kind flags a k) =
+did_more S T p tag request reply (one_made kind flags is a k) =
     more_left S _ T k (more_new S S (socket_description flags (new_socket kind)) (omega arith))
 did_more S T p tag request reply (pair_made kind flags P a b c e f k) =
     let one : Description = socket_description flags (pair_end kind (suc (next_description S)) (own_cred p P)) in

@@ -1,5 +1,5 @@
 -- Bind and SO_PASSCRED alone give a socket a name.
-use Rattle.std.proofs.Common.{◌≡◌, ◌≢◌, ◌⊎◌, ℕ, suc, ◌==◌, Bool, true, false, not, ◌||◌, cond, is_some}
+use Rattle.std.proofs.Common.{◌≡◌, ◌⊎◌, ℕ, suc, ◌==◌, Bool, true, false, not, ◌||◌, cond, is_some}
 use Rattle.std.proofs.Common.{Option, Some, None, Ok, option_map, refl, ap, sym, ◌∙◌, subst, inl, inr}
 use Rattle.std.proofs.lemmas.Bool.{eqb-true, eqb-false, false≢true, or_parts, not-false}
 use Rattle.ux_model.specs.Types.{Fd, Addr, SockOpt, Request, Reply}
@@ -25,7 +25,7 @@ use Rattle.ux_laws.proofs.Near.Single.{name_of, name_in, may_name, NearAt, stays
 use Rattle.ux_laws.proofs.Near.Calls.{chosen_near}
 use Rattle.ux_laws.proofs.LeftAlone.{Lost, same as unchanged, lost, reset, settled_lost}
 
-name_is : (S : State) (d : ℕ) (s : Socket) → socket_at S d ≡ Some s → name_in (description_at S d) ≡ Some s.name
+pub name_is : (S : State) (d : ℕ) (s : Socket) → socket_at S d ≡ Some s → name_in (description_at S d) ≡ Some s.name
 name_is S d s there = at_place (description_at S d) there
   where
     at_target : (t : Target) → socket_of t ≡ Some s → name_of t ≡ Some s.name
@@ -36,7 +36,7 @@ name_is S d s there = at_place (description_at S d) there
     at_place None h = absurd (cc h)
     at_place (Some D) h = at_target D.target h
 
-name_changed : (T : State) (t k : ℕ) (change : Socket → Socket) → ((s : Socket) → (change s).name ≡ s.name) →
+pub name_changed : (T : State) (t k : ℕ) (change : Socket → Socket) → ((s : Socket) → (change s).name ≡ s.name) →
     name_in (description_at (with_socket_by T t change) k) ≡ name_in (description_at T k)
 name_changed T t k change keeps = ap name_in (place-changed T.descriptions t k (changed change)) ∙ by_place (t == k)
   where
@@ -93,7 +93,7 @@ given_now S p d k request s name there none gives =
         let is_new : told ≡ name = put (description_at S k) told g in
         inr (was ∙ none, subst (NamesIt S p request k) (sym is_new) (subst (λ (i : ℕ). NamesIt S p request i name) at gives))
 
-no_name : (addr : Addr) → is_unnamed_addr addr ≡ true → addr ≡ Addr.Unnamed
+pub no_name : (addr : Addr) → is_unnamed_addr addr ≡ true → addr ≡ Addr.Unnamed
 no_name Addr.Unnamed h = refl
 no_name (Addr.Path path) h = absurd (false≢true h)
 no_name (Addr.Abstract name) h = absurd (false≢true h)
@@ -191,7 +191,7 @@ chosen_gives S U p tag k request reply chosen = bool_cases (may_name request) (�
 -- ---- the laws
 
 -- at the end of a call names stay
-lost_name : (U T : State) (d : ℕ) (t : Socket) → Lost U T d → socket_at T d ≡ Some t → name_in (description_at U d) ≡ Some t.name
+pub lost_name : (U T : State) (d : ℕ) (t : Socket) → Lost U T d → socket_at T d ≡ Some t → name_in (description_at U d) ≡ Some t.name
 lost_name U T d t (unchanged e) there = sym (ap name_in e) ∙ name_is T d t there
 lost_name U T d t (lost e) there = let clash : None ≡ Some t = sym (ap socket_in e) ∙ there in absurd (cc clash)
 lost_name U T d t (reset r had) there = ap name_in r.there ∙ sym (at_target r.description.target) ∙ sym (ap name_in r.left)

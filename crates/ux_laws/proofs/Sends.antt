@@ -1,5 +1,5 @@
 -- What a send that is answered a count took and left, and what one is answered where nothing can go.
-use Rattle.std.proofs.Common.{◌≡◌, ◌≢◌, ◌⊎◌, ℕ, suc, ◌==◌, ◌-◌, Bool, true, false, not, ◌&&◌, ◌||◌, cond, if◌then◌else◌, is_some, min}
+use Rattle.std.proofs.Common.{◌≡◌, ◌≢◌, ℕ, suc, ◌==◌, Bool, true, false, not, ◌&&◌, ◌||◌, cond, if◌then◌else◌, is_some, min}
 use Rattle.std.proofs.Common.{List, [], ◌∷◌, ◌++◌, length, take, Option, Some, None, Ok, Err, refl, ap, sym, ◌∙◌, subst, ⊎_elim, arith}
 use Rattle.std.specs.Prelude.{IsTrue}
 use Rattle.std.proofs.lemmas.Bool.{eq-eqb, not-true, false≢true}
@@ -39,24 +39,23 @@ use Rattle.ux_laws.proofs.NoEmpty.{part_has}
 -- of one that quietly took nothing
 none_sent : (S V T : State) (p tag n t : ℕ) (request : Request) (reply : Reply) (found : Socket) → MovesNothing S p request reply →
     Shrinks V T → waiting_at V t ≡ waiting_at S t → reply ≡ Reply.Count n → destination S p request ≡ Some t →
-    (u : Socket) × (socket_at S t ≡ Some u) × ((v : Socket) → socket_at T t ≡ Some v → IsTaken u v tag n (offered_bytes request))
+    (u : Socket) × (socket_at S t ≡ Some u) × IsTaken u (socket_at T t) tag n (offered_bytes request)
 none_sent S V T p tag n t request reply found moves sh same counts to =
     let there : sends_to S t p request ≡ true = ap (is_number t) to ∙ eq-eqb t t refl in
     let w = moves.record_out t there (ap is_count counts) in
     let both : Reply.Count n ≡ Reply.Count 0 = sym counts ∙ w.4 in
-    (w.0, w.1, λ v at. none w.2 w.3 (cc both) (still_waits V T t v sh at ∙ same ∙ waiting_is S t w.0 w.1))
+    (w.0, w.1, none w.2 w.3 (cc both) (λ v at. still_waits V T t v sh at ∙ same ∙ waiting_is S t w.0 w.1))
 
 -- of one that put a message into a queue
-one_sent : (S T : State) (p tag n t : ℕ) (request : Request) (reply : Reply) (m : Message) (a : IsSending S p tag request reply t m)
-    (v : Socket) → Shrinks (with_socket_by S t (sent m)) T → reply ≡ Reply.Count n → socket_at T t ≡ Some v →
-    IsTaken a.target v tag n (offered_bytes request)
-one_sent S T p tag n t request reply m a v sh counts at = bool_cases (is_stream a.target.kind) of_stream of_records
+one_sent : (S T : State) (p tag n t : ℕ) (request : Request) (reply : Reply) (m : Message) (a : IsSending S p tag request reply t m) →
+    Shrinks (with_socket_by S t (sent m)) T → reply ≡ Reply.Count n → IsTaken a.target (socket_at T t) tag n (offered_bytes request)
+one_sent S T p tag n t request reply m a sh counts = bool_cases (is_stream a.target.kind) of_stream of_records
   where
     part : Message
     part = sent_part a.target m
 
-    queue : v.queue ≡ a.target.queue ++ part ∷ []
-    queue = still_waits (with_socket_by S t (sent m)) T t v sh at ∙ changed_waiting S t t (sent m) a.target a.there
+    queue : (v : Socket) → socket_at T t ≡ Some v → v.queue ≡ a.target.queue ++ part ∷ []
+    queue v at = still_waits (with_socket_by S t (sent m)) T t v sh at ∙ changed_waiting S t t (sent m) a.target a.there
         ∙ ap (λ b. cond b (sent m a.target).queue (waiting_at S t)) (eq-eqb t t refl)
 
     both : Reply.Count n ≡ Reply.Count (length part.bytes)
@@ -68,7 +67,7 @@ one_sent S T p tag n t request reply m a v sh counts at = bool_cases (is_stream 
     bytes_are : (b : Bool) → is_stream a.target.kind ≡ b → part.bytes ≡ (if b then take (stream_room a.target) m.bytes else m.bytes)
     bytes_are b is = ap (λ c. if c then take (stream_room a.target) m.bytes else m.bytes) is
 
-    of_stream : is_stream a.target.kind ≡ true → IsTaken a.target v tag n (offered_bytes request)
+    of_stream : is_stream a.target.kind ≡ true → IsTaken a.target (socket_at T t) tag n (offered_bytes request)
     of_stream kind =
         let is : part.bytes ≡ take (stream_room a.target) (offered_bytes request) = bytes_are true kind
         ∙ ap (λ (l : List ℕ). take (stream_room a.target) l) a.bytes in
@@ -77,17 +76,22 @@ one_sent S T p tag n t request reply m a v sh counts at = bool_cases (is_stream 
         let cut = length-take (stream_room a.target) (offered_bytes request) in
         let few : n ≡ min (stream_room a.target) (length (offered_bytes request)) = long ∙ count ∙ cut in
         let more = part_has a.target m kind a.room a.some in
-        first kind (omega (arith, long, more)) few (record {
+        first kind (omega (arith, long, more)) few (λ v at. record {
           message = part;
-          behind = queue;
+          behind = queue v at;
           tagged = a.tagged;
           holds = is ∙ sym (take_min (stream_room a.target) (offered_bytes request)) ∙ ap (λ k. take k (offered_bytes request)) (sym few);
         })
 
-    of_records : is_stream a.target.kind ≡ false → IsTaken a.target v tag n (offered_bytes request)
+    of_records : is_stream a.target.kind ≡ false → IsTaken a.target (socket_at T t) tag n (offered_bytes request)
     of_records kind =
         let is : part.bytes ≡ offered_bytes request = bytes_are false kind ∙ a.bytes in
-        whole kind (long ∙ ap (λ (l : List ℕ). length l) is) (record { message = part; behind = queue; tagged = a.tagged; holds = is })
+        whole kind (long ∙ ap (λ (l : List ℕ). length l) is) (λ v at. record {
+          message = part;
+          behind = queue v at;
+          tagged = a.tagged;
+          holds = is;
+        })
 
 count_no_gift : (reply : Reply) (n : ℕ) → reply ≡ Reply.Count n → is_given reply ≡ true → ⊥
 count_no_gift reply n h gives = false≢true (sym (ap is_given h) ∙ gives)
@@ -95,7 +99,7 @@ count_no_gift reply n h gives = false≢true (sym (ap is_given h) ∙ gives)
 -- where it goes, what is there, and what is left
 abbrev Sent : State → State → ℕ → ℕ → ℕ → Request → Type 0
 Sent S T p tag n request = (t : ℕ) × (destination S p request ≡ Some t) × (u : Socket) × (socket_at S t ≡ Some u)
-    × ((v : Socket) → socket_at T t ≡ Some v → IsTaken u v tag n (offered_bytes request))
+    × IsTaken u (socket_at T t) tag n (offered_bytes request)
 
 flow_sent : (S T : State) (p tag n d : ℕ) (request : Request) (reply : Reply) (s : Socket) → socket_through S p request ≡ Some (d, s) →
     reply ≡ Reply.Count n → Flow S p tag request reply T → Sent S T p tag n request
@@ -109,7 +113,7 @@ flow_sent S T p tag n d request reply s through counts (put_in t m a sh) = (
       a.through ∙ a.goes,
   a.target,
   a.there,
-  λ v at. one_sent S T p tag n t request reply m a v sh counts at,
+  one_sent S T p tag n t request reply m a sh counts,
 )
 flow_sent S T p tag n d request reply s through counts (taken t k u m ms a sh) = absurd (count_no_gift reply n counts a.gives)
 
@@ -119,7 +123,7 @@ sends_count boot es j n d e s legal at through counts =
     let T : State = before boot es (suc j) in
     let w = flow_sent S T e.pid.0 j n d e.request e.reply s through counts
     (step_flow S T e.pid.0 j e.request e.reply e.released (moment boot es j e legal at).steps) in
-    record { number = w.0; target = w.2; to = w.1; there = w.3; left = w.4 }
+    record { number = w.0; target = w.2; to = w.1; there = w.3; takes = w.4 }
 
 -- ---- where nothing can go
 
@@ -297,7 +301,7 @@ sends_are_refused boot es j d e fd addr bytes control flags s legal at request t
     (subst (λ (r : Request). Step S e.pid.0 j r e.reply e.released (before boot es (suc j))) request (moment boot es j e legal at).steps)
 
 -- an empty buffer spells no rights and no credentials
-nothing_spelled : control_in [] ≡ Some (record { cred = None; rights = [] })
+pub nothing_spelled : control_in [] ≡ Some (record { cred = None; rights = [] })
 unfolding control_in with_items
 nothing_spelled = refl
 

@@ -1,5 +1,5 @@
 -- What writes put into a memory file, and that nothing else changes it; and what of a description stays.
-use Rattle.std.proofs.Common.{◌≡◌, ◌≢◌, ◌⊎◌, ℕ, zero, suc, ◌+◌, ◌-◌, ◌≤◌, ◌<◌, ◌==◌, Bool, true, false, not, ◌&&◌, if◌then◌else◌}
+use Rattle.std.proofs.Common.{◌≡◌, ◌⊎◌, ℕ, zero, suc, ◌+◌, ◌-◌, ◌≤◌, ◌<◌, ◌==◌, Bool, true, false, not, ◌&&◌, if◌then◌else◌}
 use Rattle.std.proofs.Common.{min, List, [], ◌∷◌, ◌++◌, length, take, drop, replicate, Option, Some, None, Result, Ok, Err, refl, ap}
 use Rattle.std.proofs.Common.{sym, ◌∙◌, subst, inl, inr, ⊎_elim, arith, slice_get}
 use Rattle.std.specs.Prelude.{nat_le}
@@ -191,7 +191,7 @@ object_put S d o D view held bytes here there is = either Q (not (can_write D.mo
 -- ---- write(2)
 
 -- a write through a number that leads to the file
-write_is : (S : State) (p tag o : ℕ) (fd : Fd) (bytes : List ℕ) (x : Descriptor) (D : Description) (view : View) →
+pub write_is : (S : State) (p tag o : ℕ) (fd : Fd) (bytes : List ℕ) (x : Descriptor) (D : Description) (view : View) →
     find_description S p fd ≡ Ok (x, D) → D.target ≡ to_object o → place S.objects o ≡ Some view →
     write S p tag fd bytes ≡ write_object S x.description D o view bytes
 unfolding write
@@ -209,11 +209,11 @@ write_is S p tag o fd bytes x D view found_is leads there =
     ]
 
 -- whoever is found is there
-record IsFoundAt (S : State) (p : ℕ) (fd : Fd) (x : Descriptor) (D : Description) : Type 0 where
+pub record IsFoundAt (S : State) (p : ℕ) (fd : Fd) (x : Descriptor) (D : Description) : Type 0 where
   pub held : descriptor_at S p fd ≡ Some x
   pub there : description_at S x.description ≡ Some D
 
-found_there : (S : State) (p : ℕ) (fd : Fd) (x : Descriptor) (D : Description) → find_description S p fd ≡ Ok (x, D) → IsFoundAt S p fd x D
+pub found_there : (S : State) (p : ℕ) (fd : Fd) (x : Descriptor) (D : Description) → find_description S p fd ≡ Ok (x, D) → IsFoundAt S p fd x D
 found_there S p fd x D h = by_descriptor (descriptor_at S p fd) refl h
   where
     by_description : (e : Descriptor) (o : Option Description) → descriptor_at S p fd ≡ Some e → description_at S e.description ≡ o →
@@ -237,7 +237,7 @@ found_there S p fd x D h = by_descriptor (descriptor_at S p fd) refl h
     by_descriptor (Some e) g h = by_description e (description_at S e.description) g refl h
 
 -- the file object of a place, by its body
-view_there : (S : State) (o : ℕ) (body : Body) → body_at S o ≡ Some body → (view : View) × (place S.objects o ≡ Some view) × (view.body ≡ body)
+pub view_there : (S : State) (o : ℕ) (body : Body) → body_at S o ≡ Some body → (view : View) × (place S.objects o ≡ Some view) × (view.body ≡ body)
 view_there S o body h = go (place S.objects o) refl h
   where
     go : (x : Option View) → place S.objects o ≡ x → body_in x ≡ Some body →
@@ -254,7 +254,7 @@ write_put S p tag o fd bytes held x D found_is leads has =
     (object_put S x.description o D v.0 held bytes (found_there S p fd x D found_is).there v.1 v.2)
 
 -- at the end of the call
-offset_left : (U T : State) (d : ℕ) (E : Description) → Lost U T d → description_at T d ≡ Some E →
+pub offset_left : (U T : State) (d : ℕ) (E : Description) → Lost U T d → description_at T d ≡ Some E →
     (F : Description) × (description_at U d ≡ Some F) × (E.offset ≡ F.offset)
 offset_left U T d E (unchanged e) h = (E, sym e ∙ h, refl)
 offset_left U T d E (dropped e) h = let clash : None ≡ Some E = sym e ∙ h in absurd (cc clash)

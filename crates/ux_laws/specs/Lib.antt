@@ -15,4 +15,7 @@ pub mod Inputs
 pub mod Connections
 pub mod Sends
 pub mod Writes
+pub mod FileReads
 pub mod Waits
+pub mod Progress
+pub mod FileWaits

@@ -1,13 +1,15 @@
 -- Rights come with their message, once (unix(7), SCM_RIGHTS; cmsg(3)).
-use Rattle.std.specs.Prelude.{◌≡◌, ℕ, suc, ◌<◌, ◌≤◌, true, false, List, [], length, take, Option, Some}
+use Rattle.std.specs.Prelude.{◌≡◌, ℕ, suc, ◌+◌, ◌<◌, ◌≤◌, Bool, true, false, nat_lt, List, [], length, take, Option, Some}
 use Rattle.std.specs.List.{slice_get}
 use Rattle.ux_model.specs.Types.{Fd, Addr, MsgFlags, Request, Reply, Entry}
 use Rattle.ux_model.specs.Message.{Message, queued_bytes}
+use Rattle.ux_model.specs.Control.{head_len, number_len}
 use Rattle.ux_model.specs.Socket.{Socket, is_stream}
 use Rattle.ux_model.specs.State.{State}
 use Rattle.ux_model.specs.History.{IsLegal}
 use Rattle.ux_model.specs.Changes.{sources}
 use Rattle.ux_model.specs.Pedigree.{before}
+use Rattle.ux_model.specs.PedigreeLaws.{WasSentNothing}
 use Rattle.ux_laws.specs.Talking.{is_peek, socket_through}
 
 -- ---- once
@@ -50,3 +52,15 @@ RightsComeWithTheirMessage = (boot : State) (entries : List Entry) (j n space co
     (bytes control : List ℕ) (from : Option Addr) → IsLegal boot entries → slice_get entries j ≡ Some e →
     e.request ≡ Request.RecvMsg fd n space asked → e.reply ≡ Reply.Received flags count bytes control from → e.delivered ≡ Some tag →
     AreOfMessage boot entries j e bytes tag
+
+-- ---- none
+
+-- The request asks for no rights: it is no receive, or has less control space than a right takes.
+abbrev pub asks_no_rights : Request → Bool
+asks_no_rights (Request.RecvMsg fd n space flags) = nat_lt space (head_len + number_len)
+asks_no_rights _ = true
+
+-- Who makes no others is sent nothing.
+abbrev pub RightsAreAsked : Type 0
+RightsAreAsked = (boot : State) (entries : List Entry) (p : ℕ) →
+    ((j : ℕ) (e : Entry) → slice_get entries j ≡ Some e → e.pid.0 ≡ p → asks_no_rights e.request ≡ true) → WasSentNothing boot entries p

@@ -25,23 +25,28 @@ pub record IsQueuedBehind (old new : List Message) (call : ℕ) (bytes : List �
   pub tagged : message.tag ≡ call
   pub holds : message.bytes ≡ bytes
 
+-- So it does at what is left of a socket that had this queue, if that is there.
+abbrev pub Queues : List Message → Option Socket → ℕ → List ℕ → Type 0
+Queues old left call bytes = (t : Socket) → left ≡ Some t → IsQueuedBehind old t.queue call bytes
+
 -- A call offers these bytes, is answered n, and finds and leaves this at its target.
-pub data IsTaken (found left : Socket) (call n : ℕ) (bytes : List ℕ) : Type 0 where
+pub data IsTaken (found : Socket) (left : Option Socket) (call n : ℕ) (bytes : List ℕ) : Type 0 where
   -- A datagram or a record goes whole.
-  whole : is_stream found.kind ≡ false → n ≡ length bytes → IsQueuedBehind found.queue left.queue call bytes → IsTaken found left call n bytes
+  whole : is_stream found.kind ≡ false → n ≡ length bytes → Queues found.queue left call bytes → IsTaken found left call n bytes
   -- Of a stream's bytes go as many as there is room for, at least one.
   first : is_stream found.kind ≡ true → 0 < n → n ≡ min (stream_room found) (length bytes) →
-      IsQueuedBehind found.queue left.queue call (take n bytes) → IsTaken found left call n bytes
+      Queues found.queue left call (take n bytes) → IsTaken found left call n bytes
   -- Where none is offered to a stream nothing changes.
-  none : is_stream found.kind ≡ true → bytes ≡ [] → n ≡ 0 → left.queue ≡ found.queue → IsTaken found left call n bytes
+  none : is_stream found.kind ≡ true → bytes ≡ [] → n ≡ 0 → ((t : Socket) → left ≡ Some t → t.queue ≡ found.queue) →
+      IsTaken found left call n bytes
 
--- Call j was answered n: so it goes to a socket that is there, and it did this to it, as long as that is there.
+-- Call j was answered n: so it goes to a socket that is there, and this is what that took.
 pub record IsSent (boot : State) (entries : List Entry) (j n : ℕ) (e : Entry) : Type 0 where
   pub number : ℕ
   pub target : Socket
   pub to : destination (before boot entries j) e.pid.0 e.request ≡ Some number
   pub there : socket_at (before boot entries j) number ≡ Some target
-  pub left : (t : Socket) → socket_at (before boot entries (suc j)) number ≡ Some t → IsTaken target t j n (offered_bytes e.request)
+  pub takes : IsTaken target (socket_at (before boot entries (suc j)) number) j n (offered_bytes e.request)
 
 -- A send or a write through a socket that is answered a count took so many bytes.
 abbrev pub SendsCount : Type 0

@@ -5,7 +5,7 @@ use Rattle.std.specs.Prelude.{Option, Some, None, Ok}
 use Rattle.std.specs.List.{slice_get}
 use Rattle.ux_model.specs.Types.{Fd, Name, Mode, OpenFlags, Request, Reply, Entry}
 use Rattle.ux_model.specs.Limits.{file_limit}
-use Rattle.ux_model.specs.Flags.{can_write, asks_append}
+use Rattle.ux_model.specs.Flags.{can_write, asks_append, asks_nonblock}
 use Rattle.ux_model.specs.Object.{Body, memory, overwritten, size_of_body}
 use Rattle.ux_model.specs.Description.{Description, to_object, to_socket}
 use Rattle.ux_model.specs.Process.{Descriptor}
@@ -140,6 +140,17 @@ AppendsStay = (boot : State) (entries : List Entry) (j d o : ℕ) (e : Entry) (D
     slice_get entries j ≡ Some e → description_at (before boot entries j) d ≡ Some D → D.target ≡ to_object o →
     description_at (before boot entries (suc j)) d ≡ Some E →
     (E.append ≡ D.append) ⊎ SetsAppend (before boot entries j) e.pid.0 e.request d E.append
+
+-- After each that is answered ok what the number leads to has O_APPEND and O_NONBLOCK as was asked.
+pub record HasFlags (E : Description) (flags : OpenFlags) : Type 0 where
+  pub appends : E.append ≡ asks_append flags
+  pub blocks_not : E.nonblock ≡ asks_nonblock flags
+
+abbrev pub FlagsAreSet : Type 0
+FlagsAreSet = (boot : State) (entries : List Entry) (j d : ℕ) (e : Entry) (fd : Fd) (flags : OpenFlags) (E : Description) →
+    IsLegal boot entries → slice_get entries j ≡ Some e → e.request ≡ Request.SetFlags fd flags → e.reply ≡ Reply.Ok →
+    description_of (before boot entries j) e.pid.0 fd.0 ≡ Some d → description_at (before boot entries (suc j)) d ≡ Some E →
+    HasFlags E flags
 
 -- the number that a read, a write or an lseek goes through
 abbrev pub moves_through : Request → Option Fd

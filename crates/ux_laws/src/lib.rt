@@ -5,6 +5,9 @@
 
 ghost use Rattle.ux_laws.specs.Waits.{ReceivesWait, ReadsWait, WaitsEnd, SendsWait, WritesWait, SendWaitsEnd};
 ghost use Rattle.ux_laws.specs.Waits.{AcceptsWait, AcceptWaitsEnd, ConnectsWait, ConnectWaitsEnd};
+ghost use Rattle.ux_laws.specs.Progress.{ReceivesWaitWhile, ReadsWaitWhile, InputOrWait, InputsCome, AcceptsWaitWhile, EndsCome, ConnectsWaitWhile};
+ghost use Rattle.ux_laws.specs.Progress.{SendsWaitWhile, WritesWaitWhile};
+ghost use Rattle.ux_laws.specs.FileWaits.{FileReadsWaitWhile, FileWritesWaitWhile};
 ghost use Rattle.ux_laws.specs.Credentials.{CredentialsAreTheSenders, PeersAreTheMakers};
 ghost use Rattle.ux_laws.specs.Ends.{EndsAreForEver, ResetsAreOfLosses, LossesReset, SendsFindNobody, WritesBreak};
 ghost use Rattle.ux_laws.specs.Ends.{ReadsTellTheEnd, ReceivesTellTheEnd};
@@ -16,12 +19,14 @@ ghost use Rattle.ux_laws.specs.Beginning.{NobodyMakesThem, AllCallsAreTheirs};
 ghost use Rattle.ux_laws.specs.Files.{EachHoldingHasAPedigree, ChangesHaveAWay, ReadsHaveAWay, StrangersHaveNoWay, StrangersChangeNothing};
 ghost use Rattle.ux_laws.specs.Files.{UnwrittenFilesStay, ReadsTellTheFile, FilesKeepTheirPath, HoldOnlyWhatTheyMade, StrangerHasNoWay};
 ghost use Rattle.ux_laws.specs.Writes.{WritesPut, FilesAreTheirWrites, BytesHaveAWay, ModesAreAsked, ModesStay, AppendsStay};
-ghost use Rattle.ux_laws.specs.Writes.{OffsetsStay, OpeningsAreAsAsked, NewFilesAreEmpty};
-ghost use Rattle.ux_laws.specs.OwnNames.{NamesAreGiven, OneIsNamed, AbstractNamesAreAsked};
+ghost use Rattle.ux_laws.specs.Writes.{FlagsAreSet, OffsetsStay, OpeningsAreAsAsked, NewFilesAreEmpty};
+ghost use Rattle.ux_laws.specs.FileReads.{ReadsGiveTheFile, ReadsTakeOffThePipe, FileReadsEndTruly};
+ghost use Rattle.ux_laws.specs.OwnNames.{NamesAreGiven, OneIsNamed, AbstractNamesAreAsked, PathsAreAsked, BindsName};
+ghost use Rattle.ux_laws.specs.OwnNames.{NewSocketsHaveNoName};
 ghost use Rattle.ux_laws.specs.Reach.{CallsLeaveOthersAlone, CallsLeaveTablesAlone, CallsLeavePathsAlone};
 ghost use Rattle.ux_laws.specs.Reach.{AbstractNamesStay, AbstractNamesAreBound};
 ghost use Rattle.ux_laws.specs.Records.{RecordsArriveInOrder, RecordsArriveOnce, RecordsArriveWhole, ReadRecordsArriveWhole};
-ghost use Rattle.ux_laws.specs.Rights.{RightsComeOnce, RightsComeWithTheirMessage};
+ghost use Rattle.ux_laws.specs.Rights.{RightsComeOnce, RightsComeWithTheirMessage, RightsAreAsked};
 ghost use Rattle.ux_laws.specs.Separation.{KeptFilesAreSeparated};
 ghost use Rattle.ux_laws.specs.Streams.{StreamsAreReliable};
 ghost use Rattle.ux_model.specs.ReplyKinds.{RepliesAreOfTheirKind};
@@ -162,9 +167,31 @@ pub fn appends_stay()
     ensures { AppendsStay }
 {}
 
-/// Its offset changes by a read, a write or an lseek alone, through such a descriptor.
+/// After each that is answered ok what its number leads to has O_APPEND and O_NONBLOCK as was asked.
+pub fn flags_are_set()
+    ensures { FlagsAreSet }
+{}
+
+/// The offset of a description of a file object changes by a read, a write or an lseek alone, through such a descriptor.
 pub fn offsets_stay()
     ensures { OffsetsStay }
+{}
+
+/// A read of a memory file that is answered bytes gives those at the description's offset, as many as are there and
+/// were asked for; the offset is behind them then.
+pub fn reads_give_the_file()
+    ensures { ReadsGiveTheFile }
+{}
+
+/// A read of a pipe takes its first bytes, as many as are there and were asked for.
+pub fn reads_take_off_the_pipe()
+    ensures { ReadsTakeOffThePipe }
+{}
+
+/// A read of some bytes of a file object is given none only at the end of a memory file, or of a pipe that is empty
+/// and that nobody can write to.
+pub fn file_reads_tell_no_false_end()
+    ensures { FileReadsEndTruly }
 {}
 
 /// Processes that were sent no descriptor, nor was any that made them by fork, hold only what they made: the
@@ -227,6 +254,11 @@ pub fn rights_come_with_their_message()
     ensures { RightsComeWithTheirMessage }
 {}
 
+/// A process whose receives have no control space for a right is sent none.
+pub fn who_asks_for_no_rights_is_sent_nothing()
+    ensures { RightsAreAsked }
+{}
+
 /// A call changes no description but those in its reach (that its process's descriptors lead to, their peers,
 /// targets and oldest waiting ends, and what the address that it gives leads to), those that it frees, and the
 /// peers of these, which are reset.
@@ -270,6 +302,21 @@ pub fn one_socket_is_named()
 /// A name of the abstract namespace that no socket has is given by such a call alone.
 pub fn abstract_names_are_asked_for()
     ensures { AbstractNamesAreAsked }
+{}
+
+/// So is a path that leads to no such socket.
+pub fn paths_are_asked_for()
+    ensures { PathsAreAsked }
+{}
+
+/// A bind that is answered ok finds its socket without a name, and leaves it one that was asked for and that leads to it.
+pub fn binds_name_their_socket()
+    ensures { BindsName }
+{}
+
+/// A new socket has no name, but the server's end that a connect makes: that has its listener's.
+pub fn new_sockets_have_no_name()
+    ensures { NewSocketsHaveNoName }
 {}
 
 /// Once its peer is gone, a connected socket stays without one, and no ECONNRESET comes to be pending.
@@ -424,6 +471,69 @@ pub fn connects_wait()
 /// place still, as long as the listener is there.
 pub fn what_ends_a_wait_to_connect()
     ensures { ConnectWaitsEnd }
+{}
+
+/// A receive that asks for something is answered EAGAIN exactly while nothing is there: nothing is queued, input isn't
+/// over, and no ECONNRESET is pending.
+pub fn receives_wait_exactly_for_input()
+    ensures { ReceivesWaitWhile }
+{}
+
+/// So is a read.
+pub fn reads_wait_exactly_for_input()
+    ensures { ReadsWaitWhile }
+{}
+
+/// At a datagram socket, or a connected one, either something is there or a receive has to wait: a message, a shutdown
+/// for reading, a pending ECONNRESET, or a peer that is gone or shut down for writing.
+pub fn input_or_wait()
+    ensures { InputOrWait }
+{}
+
+/// A send of some bytes, or of a datagram or a record, brings it to its target; a shutdown to the socket or to its
+/// peer; and the peer's loss. So the next receive there isn't answered EAGAIN.
+pub fn input_comes()
+    ensures { InputsCome }
+{}
+
+/// While the process has a number left, an accept is answered EAGAIN exactly while no end waits at the listener.
+pub fn accepts_wait_exactly_for_ends()
+    ensures { AcceptsWaitWhile }
+{}
+
+/// A connect of a stream or seqpacket socket that is answered ok brings an end to the listener: so the next accept there
+/// isn't answered EAGAIN.
+pub fn ends_come()
+    ensures { EndsCome }
+{}
+
+/// A connect of an idle stream or seqpacket socket, by a name, is answered EAGAIN exactly while that leads to a
+/// listening socket whose backlog has no place.
+pub fn connects_wait_exactly_for_a_place()
+    ensures { ConnectsWaitWhile }
+{}
+
+/// A plain send through a connected socket, of some bytes or of a record that isn't too long, is answered EAGAIN exactly
+/// while the peer's queue has no room, the socket isn't shut down for writing, nor the peer for reading.
+pub fn sends_wait_exactly_for_room()
+    ensures { SendsWaitWhile }
+{}
+
+/// So is a write.
+pub fn writes_wait_exactly_for_room()
+    ensures { WritesWaitWhile }
+{}
+
+/// A read of a pipe or a counter that asks for something is answered EAGAIN exactly while nothing is in it, and of a pipe
+/// somebody can write to it. One of a memory file never is.
+pub fn file_reads_wait_exactly_for_bytes()
+    ensures { FileReadsWaitWhile }
+{}
+
+/// A write that doesn't fail is answered EAGAIN exactly while a pipe that somebody can read from has no room for its
+/// bytes, or a counter for its number.
+pub fn file_writes_wait_exactly_for_room()
+    ensures { FileWritesWaitWhile }
 {}
 
 /// A call is answered a refusal, or what its manual page says that it gives: `open` a descriptor, `read` bytes, and so on.

@@ -180,7 +180,7 @@ pub socket_did : (S : State) (p tag : ℕ) (kind : SockType) (flags : OpenFlags)
     Did S p tag (Request.Socket kind flags) (make_socket S p kind flags).reply (make_socket S p kind flags).next
 unfolding make_socket
 socket_did S p tag kind flags = maybe (λ o. Did S p tag (Request.Socket kind flags) o.reply o.next) (lowest_free (table_of S p)) _ _ refuses
-    (λ n low. one_made kind flags refl (kept_shrinks (kept_table (with_new S (socket_description flags (new_socket kind))) p _)))
+    (λ n low. one_made kind flags refl refl (kept_shrinks (kept_table (with_new S (socket_description flags (new_socket kind))) p _)))
 
 pub pair_did : (S : State) (p tag : ℕ) (kind : SockType) (flags : OpenFlags) →
     Did S p tag (Request.SocketPair kind flags) (make_pair S p kind flags).reply (make_pair S p kind flags).next
