@@ -6,9 +6,11 @@
 ghost use Rattle.std.specs.Prelude.{◌≡◌, map, IfOk};
 ghost use Rattle.ux_model.specs.Boot.{IsBootState, new_process};
 
+mod named;
 mod seats;
 
 use anyhow::{Result, anyhow};
+use named::{NAMED, must_answer_by_names};
 use seats::{is_alike_by_counting_seats, is_alike_by_seats};
 use std::alloc::Global;
 use std::fs;
@@ -388,6 +390,12 @@ fn run<R: Files + Wait + Print + AllocGlobal>(rt: &R) -> Result<()> {
             return Err(anyhow!("{name}: {error}"));
         }
         println!(rt; "{name}: ok")?;
+    }
+    for (name, process) in NAMED {
+        if let Err(error) = must_answer_by_names(rt, name, process) {
+            return Err(anyhow!("named/{name}: {error}"));
+        }
+        println!(rt; "named/{name}: ok")?;
     }
     Ok(())
 }

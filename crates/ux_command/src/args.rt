@@ -44,6 +44,10 @@ pub struct Args<'a> {
     pub orders: Option<Orders>,
     /// Whether what is printed is JSON, one value a line.
     pub json: bool,
+    /// Whether replies have text in place of digits, where it can be read.
+    pub text: bool,
+    /// Whether an audit is told in words.
+    pub words: bool,
     /// Whether each line is run as soon as it is read.
     pub follow: bool,
     /// Whether it is reported on standard error how far a long run is. No option asks for it.
@@ -64,6 +68,7 @@ impl Args<'_> {
             || self.echo
             || self.expect
             || self.json
+            || self.text
             || self.dot.is_some()
             || self.sequence
             || self.several.is_some();
@@ -125,26 +130,41 @@ pub fn read_args<'a>(alloc: Global, words: &'a [String]) -> Result<Args<'a>, Err
     if several.is_some() && !allows_several(&matches) {
         return Err(command.error(ErrorKind::ArgumentConflict, NOT_SEVERAL)?);
     }
-    Ok(Args {
+    let mut args = flags_of(&matches);
+    args.audit = audit;
+    args.holders = holders;
+    args.dot = dot;
+    args.order = order;
+    args.orders = orders;
+    args.several = several;
+    Ok(args)
+}
+
+/// The options without a value, the script, and the file of a page.
+// Apart, since each return of `read_args` owes all that its arguments owe.
+fn flags_of<'a>(matches: &ArgMatches<'a>) -> Args<'a> {
+    Args {
         threads: matches.get_flag("threads"),
         check: matches.get_flag("check"),
         echo: matches.get_flag("echo"),
         expect: matches.get_flag("expect"),
         tap: matches.get_flag("tap"),
         update: matches.get_flag("update"),
-        audit,
-        holders,
-        dot,
+        audit: None,
+        holders: None,
+        dot: None,
         sequence: matches.get_flag("sequence"),
         html: matches.get_str("html"),
-        order,
-        orders,
+        order: None,
+        orders: None,
         json: matches.get_flag("json"),
+        text: matches.get_flag("text"),
+        words: matches.get_flag("words"),
         follow: matches.get_flag("follow"),
         progress: false,
         script: matches.get_str("SCRIPT").unwrap_or("-"),
-        several,
-    })
+        several: None,
+    }
 }
 
 /// The options with a value.
@@ -194,5 +214,7 @@ fn orders_of(matches: &ArgMatches<'_>) -> Option<Option<Orders>> {
         None => LIMIT,
     };
     let each = matches.get_flag("each");
-    Some(matches.get_flag("orders").then_some(Orders { limit, each }))
+    let brief = matches.get_flag("outcomes");
+    let orders = Orders { limit, each, brief };
+    Some(matches.get_flag("orders").then_some(orders))
 }

@@ -5,6 +5,7 @@ use thiserror::Error;
 use ux_kernel::BootFault;
 use ux_object::ObjError;
 use ux_orders::OrderFault;
+use ux_script_names::NameFault;
 use ux_syntax::ScriptFault;
 use ux_types::{Fd, Pid};
 
@@ -47,6 +48,15 @@ pub enum CommandFault {
     /// The file for the page can't be written.
     #[error("page not written")]
     Page,
+    /// A name of the script means nothing where it stands.
+    #[error("{0}")]
+    Name(NameFault),
+    /// The script has names or constants, and its replies were to be written into it.
+    #[error("names and constants don't go with --update")]
+    Named,
+    /// In a script with the line `wide` another process than 1 forks, and orders were asked for.
+    #[error("with --order and --orders process 1 alone may fork")]
+    ForksElsewhere,
     /// A script's answers can't be written into it.
     #[error("replies not written")]
     Update,
@@ -55,6 +65,15 @@ pub enum CommandFault {
 impl From<ScriptFault> for CommandFault {
     fn from(fault: ScriptFault) -> CommandFault {
         CommandFault::Script(fault)
+    }
+}
+
+impl From<NameFault> for CommandFault {
+    fn from(fault: NameFault) -> CommandFault {
+        match fault {
+            NameFault::NoMemory => CommandFault::Script(ScriptFault::NoMemory),
+            fault => CommandFault::Name(fault),
+        }
     }
 }
 

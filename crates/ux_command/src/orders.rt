@@ -9,6 +9,8 @@ pub struct Orders {
     pub limit: u32,
     /// Whether each is made by itself, also where it comes to the same as another.
     pub each: bool,
+    /// Whether each outcome is told in one line, without its calls.
+    pub brief: bool,
 }
 
 /// How many runs are begun where all orders are asked for, and no limit is given.
@@ -45,7 +47,6 @@ pub(crate) fn with_orders<'a>(
         .conflicts_with("holders")?
         .conflicts_with("dot")?
         .conflicts_with("sequence")?
-        .conflicts_with("echo")?
         .help("Makes the lines in every order, and tells what the orders come to");
     let limit = Arg::new(alloc, "limit")
         .long("limit")
@@ -58,5 +59,19 @@ pub(crate) fn with_orders<'a>(
         .action(ArgAction::SetTrue)
         .requires_arg("orders")?
         .help("Makes each order by itself, also where others come to the same");
-    command.arg(order)?.arg(orders)?.arg(limit)?.arg(each)
+    let outcomes = Arg::new(alloc, "outcomes")
+        .long("outcomes")
+        .action(ArgAction::SetTrue)
+        .requires_arg("orders")?
+        .conflicts_with("echo")?
+        .conflicts_with("text")?
+        .help(
+            "Tells of each outcome in one line, with the call at which it parts from the one before",
+        );
+    command
+        .arg(order)?
+        .arg(orders)?
+        .arg(limit)?
+        .arg(each)?
+        .arg(outcomes)
 }

@@ -15,6 +15,8 @@ const KEPT_LIMIT: usize = 64 << 20;
 #[derive(Debug, Drop)]
 pub struct Source {
     text: Option<Vec<u8>>,
+    /// The text that was read in its place, by which faults are explained.
+    read_as: Option<Vec<u8>>,
     failure: Option<io::Error>,
 }
 
@@ -23,6 +25,7 @@ impl Source {
     pub fn new(alloc: Global) -> Source {
         Source {
             text: Some(Vec::new(alloc)),
+            read_as: None,
             failure: None,
         }
     }
@@ -51,6 +54,19 @@ impl Source {
         match &self.text {
             Some(text) => Some(text.as_slice()),
             None => None,
+        }
+    }
+
+    /// Another text was read in its place, line for line.
+    pub fn read_as(&mut self, text: Vec<u8>) {
+        self.read_as = Some(text);
+    }
+
+    /// The text by which faults are explained.
+    fn explained(&self) -> Option<&[u8]> {
+        match &self.read_as {
+            Some(text) => Some(text.as_slice()),
+            None => self.text(),
         }
     }
 
@@ -101,7 +117,7 @@ impl Source {
         alloc: Global,
         fault: &ScriptFault,
     ) -> Result<Option<String>, AllocError> {
-        let Some(text) = &self.text else {
+        let Some(text) = self.explained() else {
             return Ok(None);
         };
         match explain(alloc, text, fault)? {
@@ -112,7 +128,7 @@ impl Source {
 
     /// Why no layer was made.
     fn boot_reason(&self, alloc: Global, fault: u8) -> Result<Option<String>, AllocError> {
-        let Some(text) = &self.text else {
+        let Some(text) = self.explained() else {
             return Ok(None);
         };
         let explanation = explain_boot(alloc, text, fault)?;
@@ -150,6 +166,17 @@ impl<R: Read + Drop> Kept<R> {
     pub fn new(alloc: Global, reader: R) -> Kept<R> {
         let source = Source::new(alloc);
         Kept { reader, source }
+    }
+
+    /// Reads on up to the end, as long as what is read is kept.
+    pub fn read_rest(&mut self) {
+        let mut chunk = [0; 4096];
+        for _ in 0..KEPT_LIMIT {
+            match self.read(&mut chunk) {
+                Ok(count) if count > 0 && self.source.text.is_some() => {}
+                _ => return,
+            }
+        }
     }
 
     /// What was read.

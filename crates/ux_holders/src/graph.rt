@@ -13,9 +13,9 @@ use ux_types::DescriptionId;
 
 /// A text between the quotation marks of a label.
 #[derive(Clone, Copy)]
-struct Label<'a>(&'a str);
+struct Quoted<'a>(&'a str);
 
-impl fmt::Display for Label<'_> {
+impl fmt::Display for Quoted<'_> {
     fn fmt<W: fmt::Write>(&self, f: &mut fmt::Formatter<W>) -> fmt::Result {
         for letter in self.0.chars() {
             match letter {
@@ -27,26 +27,58 @@ impl fmt::Display for Label<'_> {
     }
 }
 
-/// The graph of a snapshot: a box for each process with its open numbers, and nodes for descriptions, messages that
-/// wait, file objects and paths. An edge leads from whoever holds a reference to what it refers to; dashed ones lead to
-/// the socket that another is tied to.
+/// The same, in lines that end behind its commas, so that a node isn't wide.
+#[derive(Clone, Copy)]
+struct Label<'a>(&'a str);
+
+impl fmt::Display for Label<'_> {
+    fn fmt<W: fmt::Write>(&self, f: &mut fmt::Formatter<W>) -> fmt::Result {
+        for (place, part) in self.0.split(", ").enumerate() {
+            if place > 0 {
+                write!(f, ",\\n")?;
+            }
+            let part = Quoted(part);
+            write!(f, "{part}")?;
+        }
+        Ok(())
+    }
+}
+
+/// What stands before the nodes: rows from top to bottom, in a typeface and with arrows that take little room.
+const HEAD: &str = "digraph holders {
+  graph [rankdir=TB, nodesep=0.25, ranksep=0.45];
+  node [shape=box, style=filled, fillcolor=white, color=\"#3b5b7a\", fontname=\"Helvetica\", fontsize=11, margin=\"0.1,0.05\"];
+  edge [color=\"#3b5b7a\", fontname=\"Helvetica\", fontsize=10, arrowsize=0.7];
+";
+
+/// The graph of a snapshot: a row of processes, each with a record of its open numbers, and below it nodes for descriptions,
+/// messages that wait, file objects and paths. An edge leads from whoever holds a reference to what it refers to; dashed ones
+/// lead to the socket that another is tied to, and red ones from a message to what it passes.
 ///
 /// # Errors
 ///
 /// Out of memory.
 pub fn dot(alloc: Global, snapshot: &Snapshot) -> Result<String, AllocError> {
-    let mut out = String::from_str(
-        alloc,
-        "digraph holders {\n  rankdir=LR;\n  node [shape=box];\n",
-    )?;
+    let mut out = String::from_str(alloc, HEAD)?;
     for row in &snapshot.processes {
         put_process(alloc, &mut out, row)?;
     }
+    put_row(alloc, &mut out, &snapshot.processes)?;
     put_descriptions(alloc, &mut out, snapshot)?;
     put_objects(alloc, &mut out, &snapshot.objects)?;
     put_paths(alloc, &mut out, snapshot)?;
     out.push_str("}\n")?;
     Ok(out)
+}
+
+/// Puts the processes in one row.
+fn put_row(alloc: Global, out: &mut String, rows: &[ProcessRow]) -> Result<(), AllocError> {
+    out.push_str("  { rank=same;")?;
+    for row in rows {
+        let pid = row.pid.0;
+        put(out, format!(in alloc; " p{pid};"))?;
+    }
+    out.push_str(" }\n")
 }
 
 /// Appends a line.
@@ -55,28 +87,26 @@ fn put(out: &mut String, line: Result<String, AllocError>) -> Result<(), AllocEr
     out.push_str(line.as_str())
 }
 
-/// A box with the numbers of a process, and an edge from each to its description.
+/// A record with the numbers of a process, and an edge from each to its description.
 fn put_process(alloc: Global, out: &mut String, row: &ProcessRow) -> Result<(), AllocError> {
     let pid = row.pid.0;
     put(
         out,
         format!(in alloc;
-            "  subgraph cluster_{pid} {{\n    label=\"process {pid}\";\n    p{pid} [style=invis];\n"
+            "  p{pid} [shape=record, fillcolor=\"#e3edf7\", label=\"{{process {pid}|{{"
         ),
     )?;
-    for number in &row.numbers {
+    for (place, number) in row.numbers.iter().enumerate() {
         let fd = number.fd.0;
+        let bar = if place > 0 { "|" } else { "" };
         let cloexec = if number.descriptor.cloexec {
             " cloexec"
         } else {
             ""
         };
-        put(
-            out,
-            format!(in alloc; "    p{pid}_{fd} [label=\"{fd}{cloexec}\"];\n"),
-        )?;
+        put(out, format!(in alloc; "{bar}<f{fd}> {fd}{cloexec}"))?;
     }
-    out.push_str("  }\n")?;
+    out.push_str("}}\"];\n")?;
     put_numbers(alloc, out, row)
 }
 
@@ -85,7 +115,10 @@ fn put_numbers(alloc: Global, out: &mut String, row: &ProcessRow) -> Result<(), 
     for number in &row.numbers {
         let fd = number.fd.0;
         let description = number.descriptor.description.number();
-        put(out, format!(in alloc; "  p{pid}_{fd} -> d{description};\n"))?;
+        put(
+            out,
+            format!(in alloc; "  p{pid}:f{fd} -> d{description};\n"),
+        )?;
     }
     Ok(())
 }
@@ -114,7 +147,7 @@ fn put_description(
     let label = Label(text.as_str());
     put(
         out,
-        format!(in alloc; "  d{number} [shape=ellipse, label=\"{label}\"];\n"),
+        format!(in alloc; "  d{number} [style=\"rounded,filled\", label=\"{label}\"];\n"),
     )?;
     match &row.target {
         TargetRow::Object(object) => put(out, format!(in alloc; "  d{number} -> o{object};\n")),
@@ -167,10 +200,14 @@ fn put_messages(
     messages: &[MessageRow],
 ) -> Result<(), AllocError> {
     for (index, row) in messages.iter().enumerate() {
-        let label = MessageText { index, row };
+        let text = MessageText { index, row };
+        let text = format!(in alloc; "{text}")?;
+        let label = Label(text.as_str());
         put(
             out,
-            format!(in alloc; "  m{number}_{index} [shape=note, label=\"{label}\"];\n"),
+            format!(in alloc;
+                "  m{number}_{index} [shape=note, fillcolor=\"#fff6dd\", label=\"{label}\"];\n"
+            ),
         )?;
         put(
             out,
@@ -190,7 +227,10 @@ fn put_rights(
 ) -> Result<(), AllocError> {
     for right in rights {
         let right = right.number();
-        put(out, format!(in alloc; "  m{number}_{index} -> d{right};\n"))?;
+        put(
+            out,
+            format!(in alloc; "  m{number}_{index} -> d{right} [color=\"#b5472f\"];\n"),
+        )?;
     }
     Ok(())
 }
@@ -198,10 +238,14 @@ fn put_rights(
 fn put_objects(alloc: Global, out: &mut String, objects: &[ObjectRow]) -> Result<(), AllocError> {
     for row in objects {
         let number = row.number;
-        let label = ObjectText(*row);
+        let text = ObjectText(*row);
+        let text = format!(in alloc; "{text}")?;
+        let label = Label(text.as_str());
         put(
             out,
-            format!(in alloc; "  o{number} [shape=cylinder, label=\"{label}\"];\n"),
+            format!(in alloc;
+                "  o{number} [shape=cylinder, fillcolor=\"#e9f4ea\", color=\"#3f7d4a\", label=\"{label}\"];\n"
+            ),
         )?;
     }
     Ok(())
@@ -227,7 +271,7 @@ fn put_path(
     let label = Label(text.as_str());
     put(
         out,
-        format!(in alloc; "  f{index} [shape=plaintext, label=\"{label}\"];\n"),
+        format!(in alloc; "  f{index} [shape=plaintext, style=\"\", label=\"{label}\"];\n"),
     )?;
     match row.target {
         PathTarget::File(object) => put(out, format!(in alloc; "  f{index} -> o{object};\n")),

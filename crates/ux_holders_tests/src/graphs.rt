@@ -13,12 +13,25 @@ fn edge_of(line: &str) -> Option<(&str, &str)> {
     Some((from, to))
 }
 
-/// Whether some line makes a node with this name.
-fn is_node(text: &str, name: &str) -> bool {
-    text.lines().any(|line| {
+/// The line that makes the node of this name.
+fn node_of<'a>(text: &'a str, name: &str) -> Option<&'a str> {
+    text.lines().find(|line| {
         line.trim().strip_prefix(name).is_some_and(|behind| behind.starts_with(" [")
             && behind.ends_with("];"))
     })
+}
+
+/// Whether there is such a node, and the number of its record, where one is named.
+fn is_node(text: &str, name: &str) -> bool {
+    match name.split_once(':') {
+        None => node_of(text, name).is_some(),
+        Some((process, field)) => node_of(text, process).is_some_and(|line| {
+            let (_, fields) = line.split_once('<').unwrap_or(("", ""));
+            fields.split(['<', '|']).any(|part| part
+                .strip_prefix(field)
+                .is_some_and(|behind| behind.starts_with('>')))
+        }),
+    }
 }
 
 #[test]
@@ -42,7 +55,7 @@ fn edges_lead_to_nodes(rt: HostRuntime) -> Result<(), Fail> {
 
 /// The file that is in flight, and whoever holds it.
 const SENT: &[(&str, &str)] = &[
-    ("p1_1", "d3"),
+    ("p1:f1", "d3"),
     ("m2_0", "d3"),
     ("d2", "m2_0"),
     ("d3", "o0"),
@@ -77,6 +90,6 @@ fn labels_are_escaped(rt: HostRuntime) -> Result<(), Fail> {
     let alloc = rt.alloc();
     let held = Run::of(alloc, QUOTED)?.after(alloc, 2)?;
     let text = dot(alloc, &held)?;
-    assert!(rt; text.contains("dgram socket a:q\\\"\\\\, idle\""));
+    assert!(rt; text.contains("dgram socket a:q\\\"\\\\,\\nidle\""));
     Ok(())
 }

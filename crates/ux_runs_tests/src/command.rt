@@ -147,6 +147,36 @@ fn one_script_is_told_of_by_itself_too(rt: HostRuntime) -> Result<(), Fail> {
 }
 
 #[test]
+fn text_and_words_are_asked_for(rt: HostRuntime) -> Result<(), Fail> {
+    let words = texts(
+        rt.alloc(),
+        &["uxrun", "--text", "--words", "--audit", "end", "a.ux"],
+    )?;
+    let Ok(args) = read_args(rt.alloc(), words.as_slice()) else {
+        return Err(Fail::from("not understood"));
+    };
+    assert!(rt; args.text && args.words && args.audit == Some(Point::End));
+    assert!(rt; !args.may_follow() && args.script == "a.ux");
+    for (options, kind) in [
+        (["--words"].as_slice(), ErrorKind::MissingRequiredArgument),
+        (["--text", "--json"].as_slice(), ErrorKind::ArgumentConflict),
+        (
+            ["--text", "--orders"].as_slice(),
+            ErrorKind::ArgumentConflict,
+        ),
+    ] {
+        let mut words = texts(rt.alloc(), &["uxrun"])?;
+        words.extend(texts(rt.alloc(), options)?)?;
+        words.push(String::from_str(rt.alloc(), "a.ux")?)?;
+        let reported = read_args(rt.alloc(), words.as_slice())
+            .err()
+            .ok_or("understood")?;
+        assert!(rt; reported.kind() == kind);
+    }
+    Ok(())
+}
+
+#[test]
 fn a_page_is_written_besides(rt: HostRuntime) -> Result<(), Fail> {
     let words = texts(
         rt.alloc(),
@@ -223,10 +253,19 @@ fn an_echo_and_a_comparison_are_asked_for(rt: HostRuntime) -> Result<(), Fail> {
 /// What is asked for beside `--orders`, and which orders are made then.
 const ALL_ORDERS: &[(&[&str], Orders)] = &[
     (
+        &["uxrun", "--orders", "--outcomes", "a.ux"],
+        Orders {
+            limit: 1_000_000,
+            each: false,
+            brief: true,
+        },
+    ),
+    (
         &["uxrun", "--orders", "a.ux"],
         Orders {
             limit: 1_000_000,
             each: false,
+            brief: false,
         },
     ),
     (
@@ -234,6 +273,7 @@ const ALL_ORDERS: &[(&[&str], Orders)] = &[
         Orders {
             limit: 0,
             each: false,
+            brief: false,
         },
     ),
     (
@@ -241,6 +281,7 @@ const ALL_ORDERS: &[(&[&str], Orders)] = &[
         Orders {
             limit: 7,
             each: true,
+            brief: false,
         },
     ),
 ];
@@ -255,7 +296,7 @@ fn all_orders_are_asked_for(rt: HostRuntime) -> Result<(), Fail> {
         assert!(rt; args.orders == Some(*orders) && args.order.is_none());
         assert_eq!(rt; args.script, "a.ux");
     }
-    for option in ["--each", "--limit=7"] {
+    for option in ["--each", "--limit=7", "--outcomes"] {
         let words = texts(rt.alloc(), &["uxrun", option, "a.ux"])?;
         let reported = read_args(rt.alloc(), words.as_slice())
             .err()
@@ -289,7 +330,7 @@ fn other_command_lines_are_refused(rt: HostRuntime) -> Result<(), Fail> {
 }
 
 /// The steps in which more memory is left, of 16 bytes each.
-const STEPS: usize = 12800;
+const STEPS: usize = 14400;
 
 /// Reads a command line with no memory, and with 16 bytes more while it is refused, and reports how often it was.
 fn refusals_of(rt: &impl Abort, alloc: Global, words: &[String]) -> Result<usize, Fail> {
@@ -307,7 +348,7 @@ fn refusals_of(rt: &impl Abort, alloc: Global, words: &[String]) -> Result<usize
             Err(error) => assert!(rt; error.kind() == ErrorKind::OutOfMemory),
         }
     }
-    Err(Fail::from("refused with 200 KiB"))
+    Err(Fail::from("refused with 225 KiB"))
 }
 
 #[test]
@@ -353,6 +394,10 @@ fn faults_have_their_texts(rt: HostRuntime) -> Result<(), Fail> {
         (CommandFault::Limit, "not all orders were made"),
         (CommandFault::Page, "page not written"),
         (CommandFault::Update, "replies not written"),
+        (
+            CommandFault::Named,
+            "names of what calls give go with the order of the lines alone, and not with --update",
+        ),
         (CommandFault::NoCall(3), "line 3 makes no call"),
         (CommandFault::LeftOut(2), "left out 2 of the lines"),
     ];

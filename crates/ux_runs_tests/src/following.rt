@@ -63,13 +63,13 @@ fn expect(
 }
 
 /// A session of two processes: the third line to the ninth have one that names no process, one that is no call, and a
-/// header's line behind the header.
+/// header's line behind the header. Blanks, and a comment behind a call, are as people type them.
 const SESSION: &str = "proc 1000 1000 0 16
 # a comment
 proc 1000 1000 0 16
-1 pair stream -
+  1 pair   stream -
 3 close 0
-1 send 0 - 6f6b - -
+1 send 0 - 6f6b - -\t# two bytes
 1 sand 0
 1 recv 1 64 0 -
 proc 1000 1000 0 16

@@ -17,6 +17,8 @@ mod malformed;
 #[cfg(test)]
 mod metering;
 #[cfg(test)]
+mod naming;
+#[cfg(test)]
 mod serial;
 #[cfg(test)]
 mod threads;

@@ -4,6 +4,7 @@ use Rattle.std.specs.Io.BufRead.{first_piece, drop_through}
 use Rattle.ux_syntax.specs.declared.fault.ScriptFault.{ScriptFault}
 use Rattle.ux_syntax.specs.Spelling.{Plan, lines_of}
 use Rattle.ux_syntax.specs.Reading.{lines_at}
+use Rattle.ux_syntax.specs.Tidy.{tidy_line}
 
 -- what was read of an input: the number of the last line, and the bytes that are left, where they are known
 pub record Unread : Type 0 where
@@ -15,9 +16,9 @@ abbrev pub read_or : Plan → Result Plan ScriptFault → Plan
 read_or s (Ok t) = t
 read_or s (Err f) = s
 
--- the plan with the line of this number, which is left out where it is at fault
+-- the plan with the line of this number, as people type it, which is left out where it is at fault
 abbrev pub heard_line : ℕ → Plan → List ℕ → Plan
-heard_line n s text = read_or s (lines_at n s (text ∷ []))
+heard_line n s text = read_or s (lines_at n s (tidy_line text ∷ []))
 
 -- the plan with these lines, but those at fault, where the first of them has this number
 abbrev pub heard : ℕ → Plan → List (List ℕ) → Plan

@@ -2,7 +2,8 @@
 use Rattle.std.specs.Prelude.{ℕ, suc, Bool, false, not, ◌&&◌, if◌then◌else◌, List, [], ◌∷◌, ◌++◌, codes, Option, Some, None}
 use Rattle.std.specs.Option.{is_some}
 use Rattle.ux_model.specs.Types.{Entry}
-use Rattle.ux_syntax.specs.Expectations.{asks_call, marked, expected_in}
+use Rattle.ux_syntax.specs.Expectations.{asks_call, expected_in}
+use Rattle.ux_syntax.specs.Tidy.{marked}
 use Rattle.ux_script.specs.Comparing.{answer_at, is_met}
 
 -- a further line

@@ -22,7 +22,7 @@ use std::marker::{Brand, Model};
 use ux_book::{BookName, CallFault, Serial, Trail};
 use ux_kernel::Kernel;
 use ux_object::FileObject;
-use ux_syntax::{LineReader, Script, ScriptFault};
+use ux_syntax::{LineReader, Script, ScriptFault, tidy_line};
 use ux_trace::entry_text;
 use ux_types::Entry;
 
@@ -31,7 +31,7 @@ const LINES: usize = usize::MAX / 8192;
 
 /// What is done with each line when it was read.
 pub trait Listener {
-    /// A line was taken.
+    /// A line was taken, as it was read.
     fn taken(&mut self, text: &[u8]);
 
     /// A line is at fault behind those that were taken, and nothing is made of it. The fault has its number.
@@ -136,14 +136,15 @@ fn take_line<L: Listener>(
     ensures begun { OnOk result (is_begun reader.old ≡ true → Continues reader.old reader.new) }
     ensures fault { IfErr result (λ f. f ≡ ScriptFault.NoMemory) }
 {
-    match reader.read_line(alloc, number, text) {
+    let line = tidy_line(alloc, text)?;
+    match reader.read_line(alloc, number, &line) {
         Ok(()) => {
-            listener.taken(text);
+            listener.taken(&line);
             Ok(())
         }
         Err(ScriptFault::NoMemory) => Err(ScriptFault::NoMemory),
         Err(fault) => {
-            listener.left_out(reader, text, &fault);
+            listener.left_out(reader, &line, &fault);
             Ok(())
         }
     }

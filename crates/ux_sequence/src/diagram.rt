@@ -1,6 +1,6 @@
 //! The text of the diagram.
 
-use crate::arrows::{Arrow, arrow_of};
+use crate::arrows::{Arrow, arrow_of, arrow_of_connect};
 use std::alloc::{AllocError, Global};
 use std::fmt;
 use ux_kernel::Kernel;
@@ -30,8 +30,9 @@ impl fmt::Display for Escaped<'_> {
 }
 
 /// The diagram of a history: the processes are its participants. A receive is an arrow from the process that sent the
-/// message which it begins with, dotted where it only peeks; every other call is a note. Each has the call's line as
-/// `uxrun --echo` prints it. To find the senders the calls are made once more on this kernel, which has just started.
+/// message which it begins with, dotted where it only peeks; a connect is one to the process that listened last, and an accept
+/// one from the process that connected; every other call is a note. Each has the call's line as `uxrun --echo` prints it. To
+/// find the processes the calls are made once more on this kernel, which has just started.
 ///
 /// # Errors
 ///
@@ -51,6 +52,7 @@ pub fn sequence<O: FileObject>(
         let number = index as u64;
         let arrow = arrow_of(&kernel, history, entry);
         replay_entry(&mut kernel, number, entry, &mut released)?;
+        let arrow = arrow.or_else(|| arrow_of_connect(&kernel, entry));
         if put_entry(alloc, &mut out, arrow, line_at(lines, index), entry).is_err() {
             return Err(ReplayFault::NoMemory(number));
         }

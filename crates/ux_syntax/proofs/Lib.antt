@@ -20,4 +20,5 @@ pub mod Joining
 pub mod Feeding
 pub mod Expecting
 pub mod Staying
+pub mod Tidying
 pub mod Echoed

@@ -11,6 +11,7 @@ use Rattle.ux_syntax.specs.Spelling.{line_limit}
 use Rattle.ux_syntax.specs.Text.{plain_line}
 use Rattle.ux_syntax.specs.Turns.{is_call}
 use Rattle.ux_syntax.specs.Reading.{item_at}
+use Rattle.ux_syntax.specs.Tidy.{marked, tidy_line}
 
 -- the line of this number, counted from 1, or an empty one where there is none
 abbrev pub line_numbered : List (List ℕ) → ℕ → List ℕ
@@ -23,7 +24,7 @@ is_call_item (Err fault) = false
 
 -- the line is a process's, and asks for a call; how long it may be is for the script to say
 unfoldable pub asks_call : List ℕ → Bool
-asks_call text = is_call_item (item_at (line_limit true) text)
+asks_call text = is_call_item (item_at (line_limit true) (tidy_line text))
 
 -- the bytes behind `#= `, where there is one at least
 abbrev pub behind_mark : List ℕ → Option (List ℕ)
@@ -31,25 +32,6 @@ behind_mark [] = None
 behind_mark (a ∷ []) = None
 behind_mark (a ∷ b ∷ []) = None
 behind_mark (a ∷ b ∷ c ∷ reply) = if a == 35 && b == 61 && c == 32 && nat_lt 0 (length reply) then Some reply else None
-
--- behind blanks and tabs
-abbrev pub past_blanks : List ℕ → List ℕ
-past_blanks [] = []
-past_blanks (c ∷ cs) = if c == 32 || c == 9 then past_blanks cs else c ∷ cs
-
-abbrev pub begins_with_equals : List ℕ → Bool
-begins_with_equals [] = false
-begins_with_equals (c ∷ cs) = c == 61
-
--- what stands behind =, where no further = follows, as in a row of them
-abbrev pub behind_equals : List ℕ → Option (List ℕ)
-behind_equals [] = None
-behind_equals (c ∷ cs) = if c == 61 && not (begins_with_equals cs) then Some (past_blanks cs) else None
-
--- what stands behind # and =, with blanks between and behind them or without
-abbrev pub marked : List ℕ → Option (List ℕ)
-marked [] = None
-marked (c ∷ cs) = if c == 35 then behind_equals (past_blanks cs) else None
 
 -- the comment line as it is usually written
 abbrev pub usual_line : List ℕ → List ℕ

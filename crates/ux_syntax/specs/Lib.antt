@@ -10,5 +10,6 @@ pub mod Forms
 pub mod Results
 pub mod Joining
 pub mod Continuing
+pub mod Tidy
 pub mod Expectations
 pub mod PlainLines

@@ -5,12 +5,14 @@ ghost use Rattle.std.specs.Option.{is_some, option_map};
 ghost use Rattle.ux_syntax.specs.Spelling.{lines_of};
 ghost use Rattle.ux_syntax.specs.Turns.{is_call};
 ghost use Rattle.ux_syntax.specs.Text.{plain_line};
-ghost use Rattle.ux_syntax.specs.Expectations.{past_blanks, behind_equals, marked, usual_line, asks_call, behind_mark, expected_in, expecting, expectations, is_misplaced, IsFaultOfPlace};
+ghost use Rattle.ux_syntax.specs.Tidy.{marked};
+ghost use Rattle.ux_syntax.specs.Expectations.{usual_line, asks_call, behind_mark, expected_in, expecting, expectations, is_misplaced, IsFaultOfPlace};
 
 use crate::fault::{LineError, ScriptFault};
 use crate::plain::plain_line;
 use crate::reading::{Parsed, item_of, split_lines};
 use crate::script::{Act, SERIAL_LINE_LIMIT};
+use crate::tidy::{marked, tidy_line};
 use std::alloc::{AllocError, Global};
 use ux_types::Bytes;
 
@@ -41,7 +43,8 @@ fn is_call(act: &Act) -> bool
 pub fn asks_call(alloc: Global, text: &[u8]) -> Result<bool, AllocError>
     ensures { IfOk result (λ yes. yes ≡ asks_call text.now) }
 {
-    match item_of(alloc, 0, SERIAL_LINE_LIMIT, text) {
+    let line = tidy_line(alloc, text)?;
+    match item_of(alloc, 0, SERIAL_LINE_LIMIT, &line) {
         Ok(Parsed::Line(line)) => Ok(is_call(&line.act)),
         Ok(_) => Ok(false),
         Err(LineError::Memory) => Err(AllocError),
@@ -60,45 +63,6 @@ fn behind_mark(text: &[u8]) -> Option<&[u8]>
         }
         _ => None,
     }
-}
-
-/// What stands behind blanks and tabs.
-fn past_blanks(text: &[u8]) -> &[u8]
-    ensures { result.now ≡ past_blanks text.now }
-{
-    let mut rest = text;
-    while let [b' ' | b'\t', more @ ..] = rest {
-        rest = more;
-    }
-    rest
-}
-
-/// What stands behind `=`, where no further `=` follows, as in a row of them.
-fn behind_equals(text: &[u8]) -> Option<&[u8]>
-    ensures { option_map (λ reply. reply.now) result ≡ behind_equals text.now }
-{
-    match text {
-        [b'=', b'=', ..] => None,
-        [b'=', rest @ ..] => Some(past_blanks(rest)),
-        _ => None,
-    }
-}
-
-/// What stands behind `#` and `=`, with blanks between and behind them or without.
-fn marked(text: &[u8]) -> Option<&[u8]>
-    ensures { option_map (λ reply. reply.now) result ≡ marked text.now }
-{
-    match text {
-        [b'#', rest @ ..] => behind_equals(past_blanks(rest)),
-        _ => None,
-    }
-}
-
-/// Whether a line is a comment that may say what a call answers: `#`, `=`, and no further `=`.
-pub fn is_marked(text: &[u8]) -> bool
-    ensures { result ≡ is_some (marked text.now) }
-{
-    marked(text).is_some()
 }
 
 /// The comment line as it is usually written.

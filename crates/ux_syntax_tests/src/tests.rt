@@ -13,6 +13,7 @@ mod sends;
 mod serial;
 mod texts;
 mod traces;
+mod typed;
 mod waits;
 
 use std::alloc::Global;

@@ -6,6 +6,7 @@ mod follow;
 mod json;
 mod machines;
 mod moments;
+mod naming;
 mod orders;
 mod page;
 mod printing;
@@ -15,8 +16,9 @@ mod runs;
 mod several;
 mod tap;
 mod updating;
+mod wording;
 
-use audit::print_audit;
+use audit::{AuditForm, print_audit};
 use clap::Error;
 use clap::error::ErrorKind;
 use follow::follow_script;
@@ -25,7 +27,7 @@ use moments::{calls_until, print_moments};
 use orders::{Made, print_orders, run_in_order};
 use page::write_run;
 use printing::{print_comparison, print_run};
-use reading::script_of;
+use reading::{ReadScript, script_of};
 use runs::{check_script, run_script};
 use several::{expect_each, tap_each};
 use std::io::IsTerminal;
@@ -57,10 +59,13 @@ fn run<
     if let Some(names) = args.several.take() {
         return run_each(rt, args, &names);
     }
-    let (script, expected) = script_of(rt, args, source)?;
-    if script.serial && (args.order.is_some() || args.orders.is_some()) {
-        return Err(CommandFault::Script(ScriptFault::OneOrder));
-    }
+    let read = script_of(rt, args, source)?;
+    read.must_have_orders(args)?;
+    let ReadScript {
+        script,
+        expected,
+        ..
+    } = read;
     if let Some(orders) = args.orders {
         let expected = args.expect.then_some(expected.as_slice());
         return print_orders(rt, args, &script, expected, orders);
@@ -99,9 +104,20 @@ fn print_rest<
     }
     if let Some(point) = args.audit {
         let count = calls_until(rt.alloc(), script, &history, point)?;
-        print_audit(rt, &history[..count], args.json)?;
+        print_audit(rt, &history[..count], audit_form(args))?;
     }
     print_moments(rt, args, script, &history)
+}
+
+/// In which form an audit is asked for.
+fn audit_form(args: &Args<'_>) -> AuditForm {
+    if args.json {
+        AuditForm::Json
+    } else if args.words {
+        AuditForm::Words
+    } else {
+        AuditForm::Lines
+    }
 }
 
 /// Prints how many calls were made again and answered alike.
@@ -220,6 +236,7 @@ fn main(rt: HostRuntime) -> ExitCode {
         args.follow = true;
     }
     args.progress = rt.stderr().is_terminal();
+    args.words = args.words || rt.stdout().is_terminal();
     let mut source = Source::new(rt.alloc());
     match run(&rt, &mut args, &mut source) {
         Ok(()) => ExitCode::SUCCESS,

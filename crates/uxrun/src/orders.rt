@@ -5,7 +5,7 @@ ghost use Rattle.ux_script.specs.Objects.{object_of};
 
 use crate::machines::boot;
 use crate::page::{add_run, write_page};
-use crate::printing::{print_expected, print_trace};
+use crate::printing::{print_calls, print_expected};
 use std::alloc::Global;
 use std::io;
 use std::random::RandomSource;
@@ -131,7 +131,7 @@ pub fn print_orders<R: Files + Print + Clock + Eprint + RandomSource + AllocGlob
         .filter(|ran| ran.is_deadlock() && is_first(outcomes, ran))
         .count();
     println!(rt; "orders {}\noutcomes {count}", found.orders).map_err(|_| ScriptFault::Writing)?;
-    let unexpected = print_outcomes(rt, script, expected, outcomes)?;
+    let unexpected = print_outcomes(rt, args, script, expected, outcomes)?;
     if let Some(file) = args.html {
         write_outcomes(rt, file, args.script, script, outcomes)?;
     }
@@ -156,11 +156,13 @@ pub fn print_orders<R: Files + Print + Clock + Eprint + RandomSource + AllocGlob
 /// Prints the outcomes in their order: in how many of them an answer isn't the expected one.
 fn print_outcomes<R: Print + AllocGlobal>(
     rt: &R,
+    args: &Args<'_>,
     script: &Script,
     expected: Option<&[Expectation]>,
     outcomes: &[Ran],
 ) -> Result<usize, CommandFault> {
     let mut last: Option<&Ran> = None;
+    let mut told: Option<&Ran> = None;
     let mut unexpected: usize = 0;
     for _ in 0..outcomes.len() {
         let Some(next) = next_behind(outcomes, last) else {
@@ -170,7 +172,8 @@ fn print_outcomes<R: Print + AllocGlobal>(
         if !is_first(outcomes, next) {
             continue;
         }
-        print_outcome(rt, next)?;
+        print_outcome(rt, args, script, next, told)?;
+        told = Some(next);
         if let Some(expected) = expected {
             if !is_expected(rt, script, expected, outcomes, next)? {
                 unexpected = unexpected.saturating_add(1);
@@ -281,17 +284,43 @@ fn is_before(one: &Ran, other: &Ran) -> bool {
     false
 }
 
-/// Prints an outcome's order, who waits where it is a deadlock, and its trace.
-fn print_outcome<R: Print + AllocGlobal>(rt: &R, ran: &Ran) -> Result<(), CommandFault> {
+/// Prints an outcome's order, who waits where it is a deadlock, and its calls; or in place of these, where each outcome is
+/// told in one line, the call at which it parts from the one that was told before.
+fn print_outcome<R: Print + AllocGlobal>(
+    rt: &R,
+    args: &Args<'_>,
+    script: &Script,
+    ran: &Ran,
+    before: Option<&Ran>,
+) -> Result<(), CommandFault> {
+    let alloc: Global = rt.alloc();
     let list = OrderList(ran.entries());
-    match ran {
-        Ran::Deadlock(_, waits) => {
-            let waiting = Waiting::new(waits.clone()?);
-            println!(rt; "order {list} deadlock: {waiting}").map_err(|_| ScriptFault::Writing)?;
-        }
-        _ => println!(rt; "order {list}").map_err(|_| ScriptFault::Writing)?,
+    let mut line = format!(in alloc; "order {list}")?;
+    if let Ran::Deadlock(_, waits) = ran {
+        let waiting = Waiting::new(waits.clone()?);
+        let text = format!(in alloc; " deadlock: {waiting}")?;
+        line.push_str(text.as_str())?;
     }
-    print_trace(rt, ran.entries())
+    let brief = args.orders.is_some_and(|orders| orders.brief);
+    if let Some(before) = before.filter(|_| brief) {
+        let place = parting(before.entries(), ran.entries());
+        let text = format!(in alloc; ", parts at call {place}")?;
+        line.push_str(text.as_str())?;
+    }
+    println!(rt; "{line}").map_err(|_| ScriptFault::Writing)?;
+    if brief {
+        return Ok(());
+    }
+    let lines = line_numbers(alloc, script, ran.entries())?;
+    print_calls(rt, args, &lines, ran.entries())
+}
+
+/// How many calls two histories have in common before they part.
+fn parting(one: &[Entry], other: &[Entry]) -> usize {
+    one.iter()
+        .zip(other)
+        .take_while(|(entry, twin)| entry == twin)
+        .count()
 }
 
 /// Writes a page of the outcomes, in their order.

@@ -1,6 +1,7 @@
 //! What is printed of a run.
 
 use crate::json::{print_json_calls, print_json_comparison};
+use crate::wording::print_with_text;
 use std::alloc::{AllocError, Global};
 use std::io;
 use std::io::BufWriter;
@@ -23,20 +24,33 @@ pub fn print_run<R: Print + AllocGlobal>(
         return Ok(());
     }
     if !args.echo && !args.expect && !args.json {
-        return print_trace(rt, history);
+        return print_calls(rt, args, &[], history);
     }
     let lines = line_numbers(rt.alloc(), script, history)?;
-    if args.json {
-        print_json_calls(rt, &lines, history)?;
-    } else if args.echo {
-        print_echo(rt, &lines, history)?;
-    } else {
-        print_trace(rt, history)?;
-    }
+    print_calls(rt, args, &lines, history)?;
     if args.expect {
         print_comparison(rt, args, expected, &lines, history)?;
     }
     Ok(())
+}
+
+/// Prints the calls of a history in the form that is asked for; beside them stand the numbers of their lines.
+pub fn print_calls<R: Print + AllocGlobal>(
+    rt: &R,
+    args: &Args<'_>,
+    lines: &[Option<usize>],
+    history: &[Entry],
+) -> Result<(), CommandFault> {
+    if args.json {
+        return print_json_calls(rt, lines, history);
+    }
+    if args.text {
+        return print_with_text(rt, args.echo.then_some(lines), history);
+    }
+    if args.echo {
+        return print_echo(rt, lines, history);
+    }
+    print_trace(rt, history)
 }
 
 /// Prints the trace of a history.

@@ -1,15 +1,76 @@
 //! The script that was named, and what its calls are expected to answer.
 
+use crate::naming::{is_of_a_line, script_as_typed};
 use std::alloc::Global;
 use std::io::{ErrorKind, Read};
+use std::random::RandomSource;
 use std::rt::Files;
 use std::{fs, io};
-use ux_command::{Args, Kept, Source};
-use ux_syntax::{Expectation, Script, ScriptFault, expectations_of, parse_script, read_script};
+use ux_command::{Args, CommandFault, Kept, Source};
+use ux_syntax::{
+    Act, Expectation, Script, ScriptFault, expectations_of, parse_script, read_script,
+};
+use ux_types::Request;
+
+/// A script that was read.
+#[derive(Debug, Drop)]
+pub struct ReadScript {
+    pub script: Script,
+    /// What its calls are expected to answer, where that is asked for.
+    pub expected: Vec<Expectation>,
+    /// Whether it has the line `wide`: it may have all calls, as a serial script, and has more than one order.
+    pub wide: bool,
+}
+
+impl ReadScript {
+    /// Whether its calls may be made in another order than that of its lines.
+    fn has_orders(&self) -> bool {
+        !self.script.serial || self.wide
+    }
+
+    /// Whether another process than 1 forks, so that the numbers of its children depend on the order.
+    fn forks_elsewhere(&self) -> bool {
+        self.script.lines.iter().any(|line| line.pid.0 != 1
+            && matches!(&line.act, Act::Call(Request::Fork)))
+    }
+
+    /// Sees that the script can be run in the orders that are asked for, if any are.
+    pub fn must_have_orders(&self, args: &Args<'_>) -> Result<(), CommandFault> {
+        if args.order.is_none() && args.orders.is_none() {
+            return Ok(());
+        }
+        if !self.has_orders() {
+            return Err(CommandFault::Script(ScriptFault::OneOrder));
+        }
+        if self.forks_elsewhere() {
+            return Err(CommandFault::ForksElsewhere);
+        }
+        Ok(())
+    }
+}
 
 /// The script that was named. What its calls are expected to answer is looked for only where it is asked for. What was
 /// read is left in `source`.
-pub fn script_of<R: Files + Input + AllocGlobal>(
+pub fn script_of<R: Files + Input + RandomSource + AllocGlobal>(
+    rt: &R,
+    args: &Args<'_>,
+    source: &mut Source,
+) -> Result<ReadScript, CommandFault> {
+    match plain_script_of(rt, args, source) {
+        Err(fault) if is_of_a_line(&fault) && source.text().is_some() => {
+            script_as_typed(rt, args, source)
+        }
+        Err(fault) => Err(fault.into()),
+        Ok((script, expected)) => Ok(ReadScript {
+            script,
+            expected,
+            wide: false,
+        }),
+    }
+}
+
+/// The script that was named, where it is typed as `parse_script` takes it.
+fn plain_script_of<R: Files + Input + AllocGlobal>(
     rt: &R,
     args: &Args<'_>,
     source: &mut Source,
@@ -27,7 +88,7 @@ pub fn script_of<R: Files + Input + AllocGlobal>(
     }
 }
 
-/// Reads the script and leaves what was read.
+/// Reads the script and leaves what was read: all of it, also where a line is at fault.
 fn read_kept<R: Read + Drop>(
     alloc: Global,
     args: &Args<'_>,
@@ -36,6 +97,11 @@ fn read_kept<R: Read + Drop>(
 ) -> Result<(Script, Vec<Expectation>), ScriptFault> {
     let mut reader = Kept::new(alloc, reader);
     let read = read_named(alloc, args, &mut reader);
+    if let Err(fault) = &read {
+        if is_of_a_line(fault) {
+            reader.read_rest();
+        }
+    }
     *source = reader.into_source();
     read
 }

@@ -1,7 +1,7 @@
 //! Several scripts, of each of which it is told whether its answers are those that it expects.
 
 use crate::orders::Made;
-use crate::reading::script_of;
+use crate::reading::{ReadScript, script_of};
 use crate::run_as_asked;
 use crate::tap::{tell_plan, tell_point};
 use std::alloc::Global;
@@ -38,7 +38,11 @@ fn compare<
     R: Files + Input + Threads + Wait + Clock + Print + Eprint + RandomSource + AllocGlobal + Sync,
 >(rt: &R, args: &mut Args<'_>, source: &mut Source) -> Result<Compared, CommandFault> {
     let alloc: Global = rt.alloc();
-    let (script, expected) = script_of(rt, args, source)?;
+    let ReadScript {
+        script,
+        expected,
+        ..
+    } = script_of(rt, args, source)?;
     let history = match run_as_asked(rt, args, &script)? {
         Made::Whole(history) => history,
         Made::Cut(_history, fault) => return Err(fault),

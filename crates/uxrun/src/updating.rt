@@ -1,7 +1,7 @@
 //! Scripts into which their answers are written.
 
 use crate::orders::Made;
-use crate::reading::script_of;
+use crate::reading::{ReadScript, script_of};
 use crate::run_as_asked;
 use std::alloc::Global;
 use std::random::RandomSource;
@@ -39,7 +39,7 @@ fn update<
     R: Files + Input + Threads + Wait + Clock + Print + Eprint + RandomSource + AllocGlobal + Sync,
 >(rt: &R, args: &mut Args<'_>, source: &mut Source) -> Result<(), CommandFault> {
     let alloc: Global = rt.alloc();
-    let (script, _expected) = script_of(rt, args, source)?;
+    let ReadScript { script, .. } = script_of(rt, args, source)?;
     let history = match run_as_asked(rt, args, &script)? {
         Made::Whole(history) => history,
         Made::Cut(_history, fault) => return Err(fault),

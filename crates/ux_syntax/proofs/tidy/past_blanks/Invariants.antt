@@ -1,6 +1,6 @@
 use Rattle.std.proofs.Common.{◌≡◌, length}
-use Rattle.ux_syntax.specs.Expectations.{past_blanks}
-use Rattle.ux_syntax.proofs.expectations.past_blanks.Given as goal
+use Rattle.ux_syntax.specs.Tidy.{past_blanks}
+use Rattle.ux_syntax.proofs.tidy.past_blanks.Given as goal
 
 -- what is left has the same behind its blanks
 abbrev pub invariant-loop-rest : goal.invariant-loop-rest
