@@ -5,7 +5,7 @@ _uxrun() {
         --order|--audit|--holders|--dot|--html|--limit) COMPREPLY=(); return ;;
     esac
     if [[ $word == -* ]]; then
-        mapfile -t COMPREPLY < <(compgen -W '--threads --order --orders --echo --json --follow --expect --tap --update --check --audit --holders --dot --sequence --html --each --limit --help --version' -- "$word")
+        mapfile -t COMPREPLY < <(compgen -W '--threads --order --orders --echo --json --text --words --follow --expect --tap --update --check --audit --holders --dot --sequence --html --each --limit --outcomes --help --version' -- "$word")
     else
         mapfile -t COMPREPLY < <(compgen -d -- "$word"; compgen -f -X '!*.ux' -- "$word")
     fi
