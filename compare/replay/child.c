@@ -71,7 +71,7 @@ static void say_to_parent(void) {
 
 /* The child is one of this process's parent, which so hears of its end, and answers by the channel that comes now, under
  * a higher limit, so that a full table takes it too. */
-static void do_fork(char **word) {
+CALL(fork) {
     static char line[LINE + 128];
     unsigned number = shared->process_count + 1;
     (void)word;
@@ -97,7 +97,7 @@ static void do_fork(char **word) {
 }
 
 /* This program once more, which finds in the memory who it is. It needs descriptors of its own to begin. */
-static void do_exec(char **word) {
+CALL(exec) {
     char number[16];
     (void)word;
     snprintf(number, sizeof number, "%u", me);
@@ -107,31 +107,17 @@ static void do_exec(char **word) {
     _exit(2);
 }
 
-static void do_exit(char **word) {
+CALL(exit) {
     (void)word;
     _exit(0);
 }
-
-static const struct {
-    const char *word;
-    void (*make)(char **);
-} calls[] = {
-    {"open", do_open}, {"create", do_create}, {"memfd", do_memfd}, {"eventfd", do_eventfd}, {"pipe", do_pipe},
-    {"counter", do_counter}, {"read", do_read}, {"write", do_write}, {"lseek", do_lseek},
-    {"dup", do_dup}, {"dup2", do_dup2}, {"dupfd", do_dupfd}, {"getfl", do_getfl}, {"flags", do_flags}, {"inq", do_inq}, {"outq", do_outq},
-    {"close", do_close}, {"unlink", do_unlink},
-    {"socket", do_socket}, {"pair", do_pair}, {"bind", do_bind}, {"listen", do_listen}, {"connect", do_connect},
-    {"accept", do_accept}, {"shut", do_shut}, {"getopt", do_getopt}, {"setopt", do_setopt}, {"sockname", do_name},
-    {"peername", do_name}, {"send", do_send}, {"recv", do_recv}, {"poll", do_poll}, {"setids", do_setids},
-    {"fork", do_fork}, {"exec", do_exec}, {"exit", do_exit},
-};
 
 static void answer(char *line) {
     char *words[MOST_WORDS];
     size_t count = words_in(line, words);
     reply_length = made_count = 0;
-    for (size_t i = 0; i < sizeof calls / sizeof *calls; i++) {
-        if (count >= 2 && strcmp(calls[i].word, words[1]) == 0) calls[i].make(words);
+    for (const struct call *call = __start_calls; call < __stop_calls; call++) {
+        if (count >= 2 && strcmp(call->word, words[1]) == 0) call->make(words);
     }
     say("\n");
 }

@@ -14,7 +14,7 @@ unsigned char data[MOST_BYTES + CHUNK];
 int passed = -1;
 
 /* An open never waits, also not one of a pipe. */
-void do_open(char **word) {
+CALL(open) {
     char file[LINE + 1];
     if (!file_in(word[2], file)) return;
     int flags = mode_in(word[3]) | open_flags_in(word[4]), number = open(file, flags | O_NONBLOCK);
@@ -24,7 +24,7 @@ void do_open(char **word) {
 
 /* An open of a counter: its descriptor came with the line, as many opens of one eventfd are one description, which goes
  * both ways, and has the flags of the last. */
-void do_counter(char **word) {
+CALL(counter) {
     if (passed >= 0 && (fcntl(passed, F_SETFL, open_flags_in(word[4]) & ~O_CLOEXEC) < 0 ||
                         fcntl(passed, F_SETFD, strchr(word[4], 'x') ? FD_CLOEXEC : 0) < 0)) _exit(2);
     errno = EMFILE;
@@ -36,7 +36,7 @@ static int is_file(int number) {
     return fstat(number, &told) == 0 && S_ISREG(told.st_mode);
 }
 
-void do_read(char **word) {
+CALL(read) {
     int number = descriptor_in(word[2]), flags = make_read_nonblocking(number);
     size_t wanted = number_in(word[3]);
     ssize_t count = read(number, data, wanted < MOST_BYTES ? wanted : MOST_BYTES);
@@ -50,7 +50,7 @@ void do_read(char **word) {
     mark_failing(number, count > 0 || (wanted > 0 && is_file(number)));
 }
 
-void do_write(char **word) {
+CALL(write) {
     int number = descriptor_in(word[2]), flags = make_nonblocking(number);
     ssize_t count = write(number, data, bytes_in(word[3], data));
     restore_flags(number, flags);
@@ -60,16 +60,16 @@ void do_write(char **word) {
     learn_name(number);
 }
 
-void do_lseek(char **word) {
+CALL(lseek) {
     int from = word[4][0] == 's' ? SEEK_SET : word[4][0] == 'c' ? SEEK_CUR : SEEK_END;
     say_count("at", lseek(descriptor_in(word[2]), strtoll(word[3], NULL, 10), from));
 }
 
-void do_dup(char **word) { say_count("fd", dup(descriptor_in(word[2]))); }
+CALL(dup) { say_count("fd", dup(descriptor_in(word[2]))); }
 
-void do_dup2(char **word) { say_count("fd", dup2(descriptor_in(word[2]), descriptor_in(word[3]))); }
+CALL(dup2) { say_count("fd", dup2(descriptor_in(word[2]), descriptor_in(word[3]))); }
 
-void do_dupfd(char **word) {
+CALL(dupfd) {
     say_count("fd", fcntl(descriptor_in(word[2]), F_DUPFD, descriptor_in(word[3])));
 }
 
@@ -86,7 +86,7 @@ static void say_names(const char *word, int set, const struct named *names, size
 }
 
 /* FD_CLOEXEC is the descriptor's, the others are the description's. */
-void do_getfl(char **word) {
+CALL(getfl) {
     static const struct named names[] = {{O_APPEND, "APPEND"}, {O_NONBLOCK, "NONBLOCK"}, {O_CLOEXEC, "CLOEXEC"}};
     int number = descriptor_in(word[2]);
     int shared = fcntl(number, F_GETFL), own = shared < 0 ? shared : fcntl(number, F_GETFD);
@@ -94,7 +94,7 @@ void do_getfl(char **word) {
     else say_names("flags", (shared & (O_APPEND | O_NONBLOCK)) | (own & FD_CLOEXEC ? O_CLOEXEC : 0), names, sizeof names / sizeof *names);
 }
 
-void do_flags(char **word) {
+CALL(flags) {
     int number = descriptor_in(word[2]);
     int answer = fcntl(number, F_SETFL, open_flags_in(word[3]) & ~O_CLOEXEC);
     say_done(answer < 0 ? answer : fcntl(number, F_SETFD, strchr(word[3], 'x') ? FD_CLOEXEC : 0));
@@ -107,18 +107,18 @@ static void say_length(int number, unsigned long asked) {
     else say("n %d", length);
 }
 
-void do_inq(char **word) { say_length(descriptor_in(word[2]), FIONREAD); }
+CALL(inq) { say_length(descriptor_in(word[2]), FIONREAD); }
 
-void do_outq(char **word) { say_length(descriptor_in(word[2]), SIOCOUTQ); }
+CALL(outq) { say_length(descriptor_in(word[2]), SIOCOUTQ); }
 
-void do_close(char **word) { say_done(close(descriptor_in(word[2]))); }
+CALL(close) { say_done(close(descriptor_in(word[2]))); }
 
-void do_unlink(char **word) {
+CALL(unlink) {
     char file[LINE + 1];
     if (file_in(word[2], file)) say_done(unlink(file));
 }
 
-void do_poll(char **word) {
+CALL(poll) {
     static const struct named conditions[] = {
         {POLLIN, "IN"}, {POLLOUT, "OUT"}, {POLLRDHUP, "RDHUP"}, {POLLHUP, "HUP"}, {POLLERR, "ERR"}, {POLLNVAL, "NVAL"},
     };

@@ -8,7 +8,7 @@ int made[MOST_MADE];
 unsigned made_count;
 
 /* A file under a path that nothing has. */
-void do_create(char **word) {
+CALL(create) {
     char file[LINE + 1];
     if (!file_in(word[2], file)) return;
     say_count("fd", open(file, mode_in(word[3]) | open_flags_in(word[4]) | O_CREAT | O_EXCL, 0660));
@@ -19,19 +19,19 @@ static void keep_made(int number) {
     if (number >= 0) made[made_count++] = number;
 }
 
-void do_memfd(char **word) {
+CALL(memfd) {
     int number = make_file_in_memory(word[2]);
     keep_made(number);
     say_count("fd", number);
 }
 
-void do_eventfd(char **word) {
+CALL(eventfd) {
     int number = make_counter(number_in(word[2]), strchr(word[3], 's') != NULL, open_flags_in(word[3]));
     keep_made(number);
     say_count("fd", number);
 }
 
-void do_pipe(char **word) {
+CALL(pipe) {
     int ends[2];
     if (make_pipe(ends, open_flags_in(word[2])) < 0) {
         say_error();

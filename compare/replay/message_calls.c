@@ -2,7 +2,7 @@
 #include "replay.h"
 #include <sys/uio.h>
 
-void do_send(char **word) {
+CALL(send) {
     struct address address = {.length = 0};
     unsigned known = shared->alias_count;
     int number = descriptor_in(word[2]), flags = message_flags_in(word[6]) | flag_of_a_send() | MSG_NOSIGNAL;
@@ -32,7 +32,7 @@ static void say_message_flags(int flags) {
     if (told & MSG_EOR) say("EOR");
 }
 
-void do_recv(char **word) {
+CALL(recv) {
     struct address from = {.length = 0};
     int number = descriptor_in(word[2]), flags = message_flags_in(word[5]) | flag_of_a_receive(number);
     size_t wanted = number_in(word[3]), space = number_in(word[4]);

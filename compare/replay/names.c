@@ -102,11 +102,22 @@ void note_bound_name(const char *word) {
     if (word[0] == 'a' && is_digits(name, name_in(word + 2, name), &number)) shared->has_bound_digits = 1;
 }
 
+/* Whether a name that was free again has been given to another socket. */
+static int is_given_again(const struct alias *alias) {
+    if (alias->is_used) return 0;
+    set_limit(HANDED + 2);
+    int is_given = !is_free(alias->real, DIGITS);
+    set_limit(shared->processes[me].limit);
+    return is_given;
+}
+
 /* The number by which the script knows a name that the kernel gave: for a new one the lowest that no socket has. */
 static unsigned alias_of(const char *real) {
     unsigned number = 0;
     for (unsigned i = shared->alias_count; i-- > 0;) {
-        if (!memcmp(shared->aliases[i].real, real, DIGITS)) return shared->aliases[i].number;
+        if (memcmp(shared->aliases[i].real, real, DIGITS)) continue;
+        if (is_given_again(&shared->aliases[i])) break;
+        return shared->aliases[i].number;
     }
     if (shared->alias_count == MOST_ALIASES) give_up("too many names were given by autobind");
     set_limit(HANDED + 2);

@@ -159,14 +159,18 @@ size_t control_in(char *word);
 void say_credentials(const struct ucred *real);
 void say_items(struct msghdr *message);
 
-/* file_calls.c, making.c, socket_calls.c, message_calls.c, users.c: the calls, each by its words */
-void do_create(char **word), do_memfd(char **word), do_eventfd(char **word), do_pipe(char **word);
-void do_open(char **word), do_counter(char **word), do_read(char **word), do_write(char **word), do_lseek(char **word);
-void do_inq(char **word), do_outq(char **word);
-void do_dup(char **word), do_dup2(char **word), do_dupfd(char **word), do_getfl(char **word), do_flags(char **word), do_close(char **word), do_unlink(char **word);
-void do_socket(char **word), do_pair(char **word), do_bind(char **word), do_listen(char **word), do_connect(char **word);
-void do_accept(char **word), do_shut(char **word), do_getopt(char **word), do_setopt(char **word), do_name(char **word);
-void do_send(char **word), do_recv(char **word), do_poll(char **word), do_setids(char **word);
+/* The calls, each with its word: a line of a process makes the one whose word it has. CALL gives a function its word, in the linker's
+   section "calls", so that no list names them all. */
+struct call {
+    const char *word;
+    void (*make)(char **word);
+};
+extern const struct call __start_calls[], __stop_calls[];
+
+#define CALL(name)                                                                              \
+    static void do_##name(char **word);                                                         \
+    static const struct call call_##name __attribute__((section("calls"), used)) = {#name, do_##name}; \
+    static void do_##name(char **word)
 
 /* child.c: one process of the script */
 void set_limit(unsigned long limit);

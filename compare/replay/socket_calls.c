@@ -14,17 +14,17 @@ static int with_append(int number, const char *flags) {
     return number;
 }
 
-void do_socket(char **word) {
+CALL(socket) {
     say_count("fd", with_append(socket(AF_UNIX, type_in(word[2]) | socket_flags_in(word[3]), 0), word[3]));
 }
 
-void do_pair(char **word) {
+CALL(pair) {
     int pair[2];
     if (socketpair(AF_UNIX, type_in(word[2]) | socket_flags_in(word[3]), 0, pair) < 0) say_error();
     else say("fds %d %d", with_append(pair[0], word[3]), with_append(pair[1], word[3]));
 }
 
-void do_bind(char **word) {
+CALL(bind) {
     struct address address;
     int number = descriptor_in(word[2]);
     if (!address_in(word[3], &address)) {
@@ -36,10 +36,10 @@ void do_bind(char **word) {
     learn_name(number);
 }
 
-void do_listen(char **word) { say_done(listen(descriptor_in(word[2]), (int)strtol(word[3], NULL, 10))); }
+CALL(listen) { say_done(listen(descriptor_in(word[2]), (int)strtol(word[3], NULL, 10))); }
 
 /* The unnamed address is AF_UNSPEC to a datagram socket, whose association it ends. */
-void do_connect(char **word) {
+CALL(connect) {
     struct address address;
     int number = descriptor_in(word[2]);
     unsigned known = shared->alias_count;
@@ -56,7 +56,7 @@ void do_connect(char **word) {
     say_done(answer);
 }
 
-void do_accept(char **word) {
+CALL(accept) {
     struct address address = {.length = sizeof address.bytes};
     int number = descriptor_in(word[2]), flags = make_nonblocking(number);
     int made = accept4(number, &address.head, &address.length, socket_flags_in(word[3]));
@@ -67,7 +67,7 @@ void do_accept(char **word) {
     say_address(&address);
 }
 
-void do_shut(char **word) {
+CALL(shut) {
     int mode = mode_in(word[3]);
     say_done(shutdown(descriptor_in(word[2]), mode == O_RDWR ? SHUT_RDWR : mode == O_RDONLY ? SHUT_RD : SHUT_WR));
 }
@@ -90,7 +90,7 @@ static void say_peer(const struct ucred *credentials) {
     for (size_t i = start; i < reply_length; i++) reply[i] = reply[i] == ',' ? ' ' : reply[i];
 }
 
-void do_getopt(char **word) {
+CALL(getopt) {
     struct ucred credentials;
     int option = option_in(word[3]), number = descriptor_in(word[2]), value = 0;
     void *place = option == SO_PEERCRED ? (void *)&credentials : &value;
@@ -100,12 +100,12 @@ void do_getopt(char **word) {
     else say("opt %d", option == SO_ERROR && value == ECONNRESET ? LAYERS_ECONNRESET : value);
 }
 
-void do_setopt(char **word) {
+CALL(setopt) {
     int option = option_in(word[3]), value = (int)number_in(word[4]);
     say_done(setsockopt(descriptor_in(word[2]), SOL_SOCKET, option, &value, sizeof value));
 }
 
-void do_name(char **word) {
+static void say_name_of(char **word) {
     struct address address = {.length = sizeof address.bytes};
     int number = descriptor_in(word[2]);
     int answer = word[1][0] == 's' ? getsockname(number, &address.head, &address.length)
@@ -117,3 +117,7 @@ void do_name(char **word) {
     say("addr ");
     say_address(&address);
 }
+
+CALL(sockname) { say_name_of(word); }
+
+CALL(peername) { say_name_of(word); }

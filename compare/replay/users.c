@@ -100,7 +100,7 @@ static int set_ids(unsigned uid, unsigned gid) {
     return take_ids(real_user(uid), real_group(gid));
 }
 
-void do_setids(char **word) {
+CALL(setids) {
     struct process *own = &shared->processes[me];
     unsigned uid = number_in(word[2]), gid = number_in(word[3]);
     int changes = uid != NO_ID && gid != NO_ID && (uid != own->uid || gid != own->gid);
