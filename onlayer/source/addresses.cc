@@ -1,6 +1,7 @@
 #include <errno.h>
 #include <fcntl.h>
 #include <string.h>
+#include <sys/syscall.h>
 #include <sys/un.h>
 #include <unistd.h>
 #include <algorithm>
@@ -9,6 +10,8 @@
 #include "text.h"
 
 static const char NOBODY[] = "a:onlayer%20nobody";    // no such socket: the layer answers ECONNREFUSED, in its order of errors
+
+static const size_t LONGEST = 107;             // bytes of a path in the layer
 
 void forget_path(World &world, Process &process, const std::string &word) {
     world.say(process, "unlink " + word);
@@ -35,8 +38,9 @@ static Address abstract_address(World &world, Call &call, const std::string &nam
 // No such file: a name that the layer answers ENOENT for.
 static std::string missing_path(World &world, Call &call, const std::string &path) {
     std::string word = "p:" + name_word(path);
-    if (!world.names.has(word)) return word;
-    if (world.names.is_still_there(word)) return "p:~none";    // another folder's path of this spelling
+    bool is_too_long = path.size() > LONGEST;  // a path of Linux's that the layer has no word for
+    if (!world.names.has(word) && !is_too_long) return word;
+    if (is_too_long || world.names.is_still_there(word)) return "p:~none";    // or another folder's path of this spelling
     forget_path(world, *call.process, word);
     return word;
 }
@@ -44,7 +48,7 @@ static std::string missing_path(World &world, Call &call, const std::string &pat
 static Address path_address(World &world, Call &call, const std::string &path) {
     Address out;
     out.sun_path = path;
-    ActingAs acting(status_of(call.task));
+    ActingAs acting(call.task);
     File file = open_path(call.task, path);
     if (!file && errno == ENOENT) {
         out.word = missing_path(world, call, path);
@@ -69,11 +73,13 @@ Address read_address(World &world, Call &call, u64 at, long length, bool binds) 
     sa_family_t family;
     memcpy(&family, name, sizeof family);
     if (out.error) return out;
-    if (family == AF_UNSPEC || (family == AF_UNIX && length == sizeof family)) {
+    bool is_bare = length == sizeof family;
+    bool is_unnamed = family == AF_UNIX ? is_bare && call.nr() != SYS_connect : family == AF_UNSPEC && !binds;
+    if (is_unnamed) {
         out.word = "u";
         return out;
     }
-    if (family != AF_UNIX) {
+    if (family != AF_UNIX || is_bare) {
         out.error = EINVAL;
         return out;
     }

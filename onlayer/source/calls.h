@@ -21,6 +21,7 @@ struct Control {                               // what a send carries beside its
     std::string word = "-";
     unsigned rights = 0;
     int error = 0;
+    bool is_broken = false;                    // behind these items is one that isn't understood
 };
 Control read_control(World &world, Call &call, u64 at, size_t length);
 
@@ -31,6 +32,7 @@ struct Message {                               // a msghdr in the program's memo
 };
 Message read_message(const Call &call, u64 at);
 int read_parts(const Call &call, u64 at, size_t count, Parts &parts);    // an error, or 0
+unsigned flags_of_vector(const Call &call);    // of preadv2 and pwritev2, as a receive and a send have them
 
 struct Got {                                   // what a receive came to
     std::string data, from = "-";
@@ -47,6 +49,8 @@ bool passes_own_socket(World &world, Call &call);
 Task<Got> receive(World &world, Call &call, size_t n, size_t space, unsigned flags);
 
 // ---- one function a call
+
+bool may_fail(int call);                       // whether --fail may name it
 
 Task<Result> answer_socket(World &world, Call &call);
 Result answer_bind(World &world, Call &call);

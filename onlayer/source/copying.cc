@@ -13,6 +13,7 @@
 static const size_t PIECE = 65536;             // what one trip to the layer carries
 static const size_t MOST_SPLICED = 4096;       // bytes of one splice
 static const double PAUSE = 0.002;             // seconds until a pipe is looked at again
+static const unsigned SPLICE_FLAGS = SPLICE_F_MOVE | SPLICE_F_NONBLOCK | SPLICE_F_MORE | SPLICE_F_GIFT;
 
 // Sends bytes of onlayer's own as those of the program, as soon as there is room for them.
 static Task<Reply> send_bytes(World &world, Call &call, const std::string &bytes, unsigned flags) {
@@ -86,14 +87,12 @@ static Task<Result> splice_from_pipe(World &world, Call &call, File pipe, size_t
     co_return done(sent);
 }
 
-static Task<Result> splice_to_pipe(World &world, Call &call, int number, size_t all, unsigned flags) {
-    File pipe = take_file(call.process->pid, number);
+static Task<Result> splice_to_pipe(World &world, Call &call, File pipe, size_t all, unsigned flags) {
     unsigned waits = flags & SPLICE_F_NONBLOCK ? MSG_DONTWAIT : 0;
     pollfd end = {pipe.get(), POLLOUT, 0};
-    int queued = 0;
-    if (!pipe || ioctl(pipe.get(), FIONREAD, &queued)) co_return fail(EINVAL);
     while (poll(&end, 1, 0) <= 0)
         if (int error = co_await world.pause(call, PAUSE, waits, SO_RCVTIMEO)) co_return fail(error);
+    int queued = 0;
     ioctl(pipe.get(), FIONREAD, &queued);
     size_t room = std::max(fcntl(pipe.get(), F_GETPIPE_SZ) - queued, 1), most = std::min(std::min(all, room), MOST_SPLICED);
     Got got = co_await receive(world, call, most, 0, waits);
@@ -102,13 +101,23 @@ static Task<Result> splice_to_pipe(World &world, Call &call, int number, size_t 
     co_return n < 0 ? fail(errno) : done(n);
 }
 
+static bool is_pipe(const File &file) {
+    struct stat found;
+    return !fstat(file.get(), &found) && S_ISFIFO(found.st_mode);
+}
+
+// One of the two has to be a pipe, and none has an offset.
 Task<Result> answer_splice(World &world, Call &call) {
     const auto &a = call.data.args;
-    if (a[1] || a[3]) co_return fail(ESPIPE);
     NumberRef into = world.find_socket(call, (int)a[2]);
-    if (!into) co_return co_await splice_to_pipe(world, call, (int)a[2], a[4], a[5]);
-    File pipe = take_file(call.process->pid, (int)a[0]);
-    call.number = std::move(into);
+    int pipe_at = into ? 0 : 2, socket_at = 2 - pipe_at;
+    if (!a[4]) co_return done(0);
+    if (a[5] & ~(u64)SPLICE_FLAGS) co_return fail(EINVAL);
+    File pipe = take_file(call.process->pid, (int)a[pipe_at]);
     if (!pipe) co_return fail(EBADF);
+    if (!is_pipe(pipe)) co_return fail(EINVAL);
+    if (a[pipe_at + 1] || a[socket_at + 1]) co_return fail(a[pipe_at + 1] ? ESPIPE : EINVAL);
+    if (!into) co_return co_await splice_to_pipe(world, call, std::move(pipe), a[4], a[5]);
+    call.number = std::move(into);
     co_return co_await splice_from_pipe(world, call, std::move(pipe), a[4], a[5] & SPLICE_F_NONBLOCK ? MSG_DONTWAIT : 0);
 }

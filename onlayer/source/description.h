@@ -24,6 +24,7 @@ struct Description {
     bool listening = false, passes_credentials = false, is_server_end = false, has_limit = false;
     std::string name;                          // in the layer's words
     int send_room = 0, receive_room = 0;       // SO_SNDBUF and SO_RCVBUF as they are told
+    int least_received = 1;                    // SO_RCVLOWAT
     std::vector<gid_t> peer_groups, listener_groups;
     ucred listener = {0, (uid_t)-1, (gid_t)-1};    // who made it listen; nobody where it doesn't
 

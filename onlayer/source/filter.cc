@@ -28,7 +28,8 @@ static const int TOLD[] = {
     SYS_read, SYS_write, SYS_readv, SYS_writev, SYS_sendto, SYS_sendmsg, SYS_recvfrom, SYS_recvmsg, SYS_accept, SYS_accept4,
     SYS_connect, SYS_bind, SYS_listen, SYS_shutdown, SYS_getsockname, SYS_getpeername, SYS_getsockopt, SYS_setsockopt, SYS_sendmmsg,
     SYS_recvmmsg, SYS_dup, SYS_dup2, SYS_dup3, SYS_close_range, SYS_sendfile, SYS_splice, SYS_preadv2, SYS_pwritev2, SYS_setuid,
-    SYS_setgid, SYS_setreuid, SYS_setregid, SYS_setresuid, SYS_setresgid, SYS_setgroups, SYS_pidfd_getfd, SYS_io_uring_setup, SYS_ptrace};
+    SYS_setgid, SYS_setreuid, SYS_setregid, SYS_setresuid, SYS_setresgid, SYS_setgroups, SYS_pidfd_getfd, SYS_io_uring_setup, SYS_io_submit,
+    SYS_ptrace};
 
 class Program {
     std::vector<sock_filter> code;
@@ -59,12 +60,12 @@ public:
         leave_with_bits(bits, action);
         leave(SECCOMP_RET_ALLOW);
     }
-    // Of a close, but for those that onlayer has a task make.
-    void leave_if_close(unsigned action) {
-        code.push_back(BPF_JUMP(BPF_JMP | BPF_JEQ | BPF_K, SYS_close, 0, 6));
-        load(offsetof(seccomp_data, args) + 8);
+    // Of a call, but for those that onlayer has a task make, with UNTOLD as an argument that the kernel doesn't look at.
+    void leave_unless_untold(unsigned call, unsigned argument, unsigned action) {
+        code.push_back(BPF_JUMP(BPF_JMP | BPF_JEQ | BPF_K, call, 0, 6));
+        load(offsetof(seccomp_data, args) + 8 * argument);
         code.push_back(BPF_JUMP(BPF_JMP | BPF_JEQ | BPF_K, (unsigned)UNTOLD, 0, 3));
-        load(offsetof(seccomp_data, args) + 12);
+        load(offsetof(seccomp_data, args) + 8 * argument + 4);
         code.push_back(BPF_JUMP(BPF_JMP | BPF_JEQ | BPF_K, (unsigned)(UNTOLD >> 32), 0, 1));
         leave(SECCOMP_RET_ALLOW);
         leave(action);
@@ -87,7 +88,8 @@ std::vector<sock_filter> watching_filter() {
     Program program;
     program.leave_of_others(tells);
     for (int call : TOLD) program.leave_if(call, tells);
-    program.leave_if_close(tells);
+    program.leave_unless_untold(SYS_close, 1, tells);
+    program.leave_unless_untold(SYS_seccomp, 3, tells);
     program.leave_if_argument(SYS_socket, 0, {AF_UNIX}, tells);
     program.leave_if_argument(SYS_socketpair, 0, {AF_UNIX}, tells);
     program.leave_if_argument(SYS_fcntl, 1, {F_DUPFD, F_DUPFD_CLOEXEC}, SECCOMP_RET_TRACE | COPIES);

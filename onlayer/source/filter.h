@@ -6,7 +6,7 @@
 // Why the tracer is told of a call, in the event's message.
 enum Traced : unsigned { BEGINS, FOREIGN, COPIES };    // it may concern the layer; of another architecture; an F_DUPFD
 
-static const u64 UNTOLD = 0x6f6e6c6179657221;  // the second word of a close that onlayer itself has a task make
+static const u64 UNTOLD = 0x6f6e6c6179657221;  // an argument of calls that onlayer itself has a task make
 
 // The filter whose listener is told of all calls that may concern a socket.
 std::vector<sock_filter> watching_filter();

@@ -12,6 +12,8 @@
 #include <sstream>
 #include <memory>
 
+static const size_t MOST_MOVED = 0x7ffff000;   // bytes of one call of Linux's
+
 void File::reset(int opened) {
     if (number >= 0) close(number);
     number = opened;
@@ -28,7 +30,7 @@ bool write_memory(int task, u64 to, const void *from, size_t n) {
 
 size_t room_of(const Parts &parts) {
     size_t all = 0;
-    for (auto &part : parts) all += part.iov_len;
+    for (auto &part : parts) all = std::min(all + part.iov_len, MOST_MOVED);
     return all;
 }
 bool gather(int task, const Parts &parts, size_t skip, size_t n, std::string &out) {
@@ -123,6 +125,7 @@ ActingAs::ActingAs(const Status &status) {
     setfsgid(status.file_group);
     setfsuid(status.file_user);
 }
+ActingAs::ActingAs(int task) : ActingAs(geteuid() == 0 ? status_of(task) : Status()) {}
 ActingAs::~ActingAs() {
     if (!acts) return;
     setfsuid(0);

@@ -64,6 +64,7 @@ class ActingAs {
 
 public:
     explicit ActingAs(const Status &status);
+    explicit ActingAs(int task);
     ~ActingAs();
     ActingAs(const ActingAs &) = delete;
 };

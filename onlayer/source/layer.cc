@@ -1,6 +1,7 @@
 #include "layer.h"
 #include <errno.h>
 #include <fcntl.h>
+#include <signal.h>
 #include <string.h>
 #include <unistd.h>
 #include <algorithm>
@@ -29,7 +30,7 @@ int Reply::description_of(int number) const {
 
 // ---- the program
 
-Layer::Layer(const std::string &program, const std::string &script_path, const std::vector<std::string> &header) {
+Layer::Layer(const std::string &program, const std::string &script_path, const std::vector<std::string> &header) : room(READ_ROOM) {
     script.reset(fopen(script_path.c_str(), "we"));
     if (!script) throw Fault("can't write " + script_path + ": " + strerror(errno));
     launch(program);
@@ -45,6 +46,9 @@ void Layer::launch(const std::string &program) {
     if (!fork()) {
         dup2(in[0], 0), dup2(out[1], 1), dup2(bad[1], 2);
         setpgid(0, 0);                         // a terminal's signals are for the program
+        sigset_t none;
+        sigemptyset(&none);
+        sigprocmask(SIG_SETMASK, &none, nullptr);
         execl(program.c_str(), program.c_str(), nullptr);
         _exit(127);
     }
@@ -78,13 +82,11 @@ void Layer::fail() {
 
 void Layer::fill() {
     unread.erase(0, std::exchange(read_to, 0));
-    size_t before = unread.size();
-    unread.resize(before + READ_ROOM);
     ssize_t n;
-    do n = read(from.get(), &unread[before], READ_ROOM);
+    do n = read(from.get(), room.data(), room.size());
     while (n < 0 && errno == EINTR);
-    unread.resize(before + std::max<ssize_t>(n, 0));
     if (n <= 0) fail();
+    unread.append(room.data(), n);
 }
 
 // Valid until the next.
@@ -111,7 +113,9 @@ static Reply reply_of(std::string_view line) {
     reply.text = line.substr(at + 3);
     size_t closed = reply.text.rfind(" closed ");
     if (closed != std::string::npos) reply.text.erase(closed);
-    if (begins_with(reply.text, "err ")) reply.error = errno_of(reply.text.substr(4));
+    bool is_error = begins_with(reply.text, "err ");
+    if (is_error) reply.error = errno_of(reply.text.substr(4));
+    if (is_error && !reply.error) throw Fault("not an error that is known: " + std::string(line));
     reply.connects = reply.ok() && at > 8 && line.substr(at - 8, 8) == " connect";
     return reply;
 }
@@ -162,13 +166,14 @@ Layer::Block Layer::read_block() {
     for (;;) {
         std::string_view line = read_line();
         if (line.empty()) throw Fault("the layer answers with an empty line");
-        if (line[0] == '!') throw Fault("the layer says: " + std::string(line.substr(2)));
         if (line[0] == '.') {
             read_changes(block, line);
             name_server_ends(block);
+            if (!block.fault.empty()) throw LineRefused("the layer says: " + block.fault);
             return block;
         }
-        if (line[0] == ' ') block.texts.emplace_back(line.substr(2));
+        if (line[0] == '!') block.fault = line.substr(2);
+        else if (line[0] == ' ') block.texts.emplace_back(line.substr(2));
         else read_answer_line(block, line);
     }
 }

@@ -11,6 +11,7 @@
 #include <string_view>
 #include <vector>
 #include "kernel.h"
+#include "text.h"
 
 enum Condition : unsigned { IN = 1, OUT = 2, RDHUP = 4, HUP = 8, ERR = 16 };
 
@@ -51,10 +52,16 @@ struct Held {
     std::vector<int> processes;                // with a number of it
 };
 
+// A line that the layer finds at fault, and that has changed nothing.
+struct LineRefused : Fault {
+    using Fault::Fault;
+};
+
 class Layer {
     File to, from, complaints;
     std::string unread;                        // of what the layer has written
     size_t read_to = 0;
+    std::vector<char> room;                    // for one read
     std::string unsent;                        // lines that go out with the next one
     unsigned unsent_blocks = 0;
     std::unique_ptr<FILE, int (*)(FILE *)> script{nullptr, fclose};
@@ -66,6 +73,7 @@ class Layer {
         std::vector<Answer> answers;           // of all that were made, the asked one first
         std::vector<bool> was_pending;
         std::vector<std::string> texts;
+        std::string fault;
         std::vector<int> newcomers;
     };
 

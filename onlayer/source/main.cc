@@ -28,6 +28,8 @@ static int run(Options &options) {
     options.script = std::filesystem::absolute(script_path(options));
     options.uxserve = std::filesystem::absolute(options.uxserve);
     options.uxrun = std::filesystem::absolute(options.uxrun);
+    sigset_t watched = watched_signals();
+    sigprocmask(SIG_BLOCK, &watched, nullptr);
     std::string limit = text(options.table_limit);
     bool is_root = geteuid() == 0;
     std::string own = "proc " + text(geteuid()) + " " + text(getegid()) + (is_root ? " 1 " : " 0 ") + limit, guests = "proc 0 0 1 " + limit;

@@ -209,6 +209,7 @@ Task<Result> answer_connect(World &world, Call &call) {
 
 Task<Result> answer_accept(World &world, Call &call) {
     unsigned flags = call.nr() == SYS_accept4 ? call.data.args[3] : 0;
+    if (flags & ~(SOCK_NONBLOCK | SOCK_CLOEXEC)) co_return fail(EINVAL);
     if (call.number->file->listening && !has_room(call, 1)) co_return fail(EMFILE);
     std::string words = "accept " + text(call.number->layer) + " -";
     Reply reply = co_await world.ask(call, std::move(words), 0, SO_RCVTIMEO);

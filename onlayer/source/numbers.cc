@@ -58,15 +58,14 @@ static bool is_below_limit(const Call &call, int number) {
 Task<Result> answer_dup2(World &world, Call &call) {
     int from = call.argument(0), to = call.argument(1);
     NumberRef entry = world.find(call, from);
-    if (from == to || !is_below_limit(call, to)) co_return pass();
+    unsigned flags = call.nr() == SYS_dup3 ? call.data.args[2] : 0;
+    if (from == to || flags & ~O_CLOEXEC || !is_below_limit(call, to)) co_return pass();    // refused, or nothing to do
     if (!entry) {
         struct stat file;
         bool is_open = !lstat(proc_path(call.task, "fd/" + text(from)).c_str(), &file);
         if (is_open) close_numbers(world, call, {to});
         co_return pass();
     }
-    unsigned flags = call.nr() == SYS_dup3 ? call.data.args[2] : 0;
-    if (flags & ~O_CLOEXEC) co_return fail(EINVAL);
     co_return co_await copy_to(world, call, std::move(entry), flags != 0, to);
 }
 

@@ -6,31 +6,39 @@
 #include <stdlib.h>
 #include <string.h>
 #include <unistd.h>
+#include "calls.h"
 #include "text.h"
 
 static const char HELP[] =
     "usage: onlayer [OPTION..] [--] COMMAND [ARGUMENT..]\n"
     "\n"
-    "Runs a command, and all that it starts, with their AF_UNIX sockets answered by the layer in place of the kernel.\n"
+    "Runs a command, and all that it starts, with their AF_UNIX sockets answered by\n"
+    "the layer in place of the kernel.\n"
     "\n"
-    "  --uxserve PATH    the layer's program; else that of the variable UXSERVE, or crates/uxserve/out/uxserve\n"
-    "  --uxrun PATH      that which tells holders and audits; else that of the variable UXRUN, or crates/uxrun/out/uxrun\n"
-    "  --qlimit N        a stream's queue takes N bytes, 1 to 1048576\n"
-    "  --nofile N        a process has at most N descriptors in the layer, 1 to 4096\n"
-    "  --fail C:N:E      the Nth call C of a socket fails with E, as in sendmsg:3:ENOMEM; may stand several times\n"
-    "  --order SEED      who goes on first, of calls that wait, is drawn\n"
-    "  --orders N        runs the command under N seeds, and says which replies or statuses differ\n"
-    "  --script FILE     keeps the calls of the layer, a script for uxrun\n"
-    "  --holders WHEN    tells at the end who held what at WHEN: after N calls, line:N of the script, or end (of the command)\n"
-    "  --audit WHEN      tells likewise through whom each descriptor came\n"
-    "  --log FILE        writes what onlayer tells there, in place of standard error\n"
-    "  --json            tells in JSON\n"
-    "  --quiet           leaves out the paragraph at the end\n"
-    "  --verbose         notes each call of the program in the script\n"
+    "  --qlimit N       a stream's queue takes N bytes, 1 to 1048576\n"
+    "  --nofile N       a process has at most N descriptors in the layer, 1 to 4096\n"
+    "  --fail C:N:E     the Nth call C of a socket fails with E, as in\n"
+    "                   sendmsg:3:ENOMEM; may stand several times\n"
+    "  --order SEED     who goes on first, of calls that wait, is drawn\n"
+    "  --orders N       runs the command under N seeds, and says which replies,\n"
+    "                   outputs or statuses differ\n"
+    "  --script FILE    keeps the calls of the layer, a script for uxrun\n"
+    "  --holders WHEN   tells at the end who held what at WHEN: after N calls,\n"
+    "                   line:N of the script, or end (of the command)\n"
+    "  --audit WHEN     tells likewise through whom each descriptor came\n"
+    "  --log FILE       writes what onlayer tells there, not on standard error\n"
+    "  --json           tells in JSON, a value a line\n"
+    "  --quiet          leaves out the paragraph at the end\n"
+    "  --verbose        notes each call of the program in the script\n"
+    "  --uxserve PATH   the layer's program; else that of the variable UXSERVE, or\n"
+    "                   crates/uxserve/out/uxserve\n"
+    "  --uxrun PATH     what tells holders and audits; else that of the variable\n"
+    "                   UXRUN, or crates/uxrun/out/uxrun\n"
     "  --help, --version\n"
     "\n"
-    "The status is the command's, 128 and the signal's number where one ended it, 125 where onlayer itself fails, and 2 where\n"
-    "its options aren't understood. SIGUSR1 to onlayer tells who holds what and who waits for whom now.\n";
+    "The status is the command's, 128 and the signal's number where one ended it,\n"
+    "125 where onlayer itself fails, and 2 where its options aren't understood.\n"
+    "SIGUSR1 to onlayer tells who holds what and who waits for whom now.\n";
 
 [[noreturn]] static void leave(const std::string &why) {
     fprintf(stderr, "onlayer: %s (onlayer --help lists the options)\n", why.c_str());
@@ -53,7 +61,7 @@ static Failure read_failure(const char *word) {
     failure.call = call_number(parts[0]);
     failure.at = read_number("--fail", parts[1].c_str(), 1, LONG_MAX);
     failure.error = errno_of(parts[2]);
-    if (failure.call < 0) leave("--fail: no call that onlayer answers is named '" + parts[0] + "'");
+    if (!may_fail(failure.call)) leave("--fail: no call of a socket is named '" + parts[0] + "'");
     if (!failure.error) leave("--fail: no error is named '" + parts[2] + "'");
     return failure;
 }
@@ -115,7 +123,7 @@ static void take_option(Options &options, int option) {
     case UXSERVE: options.uxserve = optarg; break;
     case UXRUN: options.uxrun = optarg; break;
     case HELPS: fputs(HELP, stdout); exit(fflush(stdout) ? 125 : 0);
-    case VERSION: puts("onlayer 0.4.0"); exit(fflush(stdout) ? 125 : 0);
+    case VERSION: puts("onlayer 0.5.0"); exit(fflush(stdout) ? 125 : 0);
     }
 }
 

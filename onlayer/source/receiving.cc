@@ -10,7 +10,13 @@ static const size_t MOST_BYTES = 1 << 20, MOST_SPACE = 4294967295;
 int read_parts(const Call &call, u64 at, size_t count, Parts &parts) {
     if (count > 1024) return EMSGSIZE;
     parts.resize(count);
-    return read_memory(call.task, at, parts.data(), count * sizeof(iovec)) ? 0 : EFAULT;
+    if (!read_memory(call.task, at, parts.data(), count * sizeof(iovec))) return EFAULT;
+    return std::any_of(parts.begin(), parts.end(), [](const iovec &part) { return (ssize_t)part.iov_len < 0; }) ? EINVAL : 0;
+}
+
+unsigned flags_of_vector(const Call &call) {
+    bool has_flags = call.nr() == SYS_preadv2 || call.nr() == SYS_pwritev2;
+    return has_flags && call.data.args[5] & RWF_NOWAIT ? MSG_DONTWAIT : 0;
 }
 
 Message read_message(const Call &call, u64 at) {
@@ -67,7 +73,7 @@ Task<Got> receive(World &world, Call &call, size_t n, size_t space, unsigned fla
     if (got.error) co_return got;
     Ref own = call.number->file;
     std::string before, head = "recv " + text(call.number->layer) + " ", tail = " " + text(std::min(space, MOST_SPACE)) + " " + letters_of(flags);
-    bool wants_all = flags & MSG_WAITALL && !(flags & MSG_PEEK) && own->is_stream();
+    size_t least = flags & MSG_PEEK || !own->is_stream() ? 0 : flags & MSG_WAITALL ? n : std::min<size_t>(n, own->least_received);
     for (;;) {
         std::string words = head + text(std::min(n - before.size(), MOST_BYTES)) + tail;
         Reply reply = co_await world.ask(call, std::move(words), flags, SO_RCVTIMEO);
@@ -80,7 +86,8 @@ Task<Got> receive(World &world, Call &call, size_t n, size_t space, unsigned fla
             std::vector<int> numbers = co_await world.deliver(call, std::move(gifts));
             take_rights(got, numbers);
         }
-        bool wants_more = wants_all && !got.error && got.n > 0 && got.rights.empty() && before.size() + got.n < n;
+        bool ends_early = !got.rights.empty() || (own->passes_credentials && own->told.bytes);    // what is left is of another sender
+        bool wants_more = !got.error && got.n > 0 && !ends_early && before.size() + got.n < least;
         if (!wants_more) co_return joined(before, std::move(got));
         before += got.data;
     }
@@ -124,8 +131,8 @@ Task<Result> answer_read(World &world, Call &call) {
     int error = is_vector ? read_parts(call, a[1], a[2], parts) : 0;
     if (error) co_return fail(error == EMSGSIZE ? EINVAL : error);
     size_t room = room_of(parts);
-    if (call.nr() == SYS_read && !room) co_return done(0);
-    Got got = co_await receive(world, call, room, 0, is_recvfrom ? a[3] & ~MSG_CMSG_CLOEXEC : 0);
+    if (!is_recvfrom && !room) co_return done(0);
+    Got got = co_await receive(world, call, room, 0, is_recvfrom ? a[3] & ~MSG_CMSG_CLOEXEC : flags_of_vector(call));
     if (got.error) co_return fail(got.error);
     if (!scatter(call.task, parts, got.data)) co_return fail(EFAULT);
     std::string name = got.from == "u" ? "" : address_bytes(world, got.from);

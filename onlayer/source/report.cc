@@ -41,12 +41,26 @@ public:
     std::string end() const { return words + (json ? "}\n" : "\n"); }
 };
 
-// The process that has the other end of a call's socket, as the layer tells it now.
-static const Process *other_end(const World &world, std::map<int, Held> &holders, const Call &call) {
+struct OtherEnd {                              // of a call's socket, as the layer tells it
+    const Process *process = nullptr;          // that has it
+    long unread = 0;                           // bytes
+};
+
+static OtherEnd other_end(const World &world, std::map<int, Held> &holders, const Call &call) {
+    OtherEnd other;
     int peer = call.number ? holders[call.number->file->id].peer : -1;
-    if (peer < 0 || holders[peer].processes.empty()) return nullptr;
-    auto found = world.by_layer.find(holders[peer].processes.front());
-    return found == world.by_layer.end() ? nullptr : found->second;
+    if (peer < 0 || holders[peer].processes.empty()) return other;
+    auto process = world.by_layer.find(holders[peer].processes.front());
+    auto file = world.files.find(peer);
+    if (process != world.by_layer.end()) other.process = process->second;
+    if (file != world.files.end()) other.unread = file->second->told.bytes;
+    return other;
+}
+
+static std::string words_of(const World &world, const OtherEnd &other) {
+    if (!other.process) return "";
+    std::string has = ", whose other end " + world.title(*other.process) + " has";
+    return other.unread ? has + ", with " + text(other.unread) + (other.unread == 1 ? " byte" : " bytes") + " unread" : has;
 }
 
 static std::string who_waits(World &world) {
@@ -54,12 +68,12 @@ static std::string who_waits(World &world) {
     std::map<int, Held> holders = world.layer->holders();
     for (auto &[task, call] : world.calls) {
         if (!call.waits()) continue;
-        const Process *other = other_end(world, holders, call);
-        std::string whom = other ? ", whose other end " + world.title(*other) + " has" : "";
+        OtherEnd other = other_end(world, holders, call);
         lines += Line(world.options.json, "waits")
-                     .say("  " + world.title(*call.process) + " waits in " + call_name(call.nr()) + " of " + text(call.argument(0)) + whom)
+                     .say("  " + world.title(*call.process) + " waits in " + call_name(call.nr()) + " of " + text(call.argument(0)) + words_of(world, other))
                      .field("program", call.process->program).field("pid", call.process->pid).field("task", call.task)
-                     .field("call", call_name(call.nr())).field("number", call.argument(0)).field("other_pid", other ? other->pid : 0)
+                     .field("call", call_name(call.nr())).field("number", call.argument(0)).field("other_pid", other.process ? other.process->pid : 0)
+                     .field("other_unread", other.unread)
                      .end();
     }
     return lines;
@@ -111,7 +125,7 @@ static std::string unused_listeners(World &world) {
         if (what.used) continue;
         Line line(world.options.json, "unused listener");
         line.say("onlayer: " + what.program + " (pid " + text(what.pid) + ") found a listening socket open as " + text(what.number) + ", " +
-                 what.name.substr(std::min<size_t>(2, what.name.size())) + ", and never used it");
+                 what.name + ", and never used it");
         lines += line.field("program", what.program).field("pid", what.pid).field("number", what.number).field("name", what.name).end();
     }
     return lines;

@@ -61,10 +61,7 @@ Control read_control(World &world, Call &call, u64 at, size_t length) {
     else if (!read_memory(call.task, at, &buffer[0], length)) out.error = EFAULT;
     if (out.error) return out;
     Items items = read_items(world, call, buffer);
-    if (!items.is_readable) {
-        out.word = "x:" + hex(buffer);         // the layer refuses it, in its order of errors
-        return out;
-    }
+    out.is_broken = !items.is_readable;
     std::string words;
     for (int right : items.rights) {
         int number = right < 0 ? -EBADF : world.adopt(call, right);
@@ -144,7 +141,7 @@ static Task<Result> send_message(World &world, Call &call, u64 at, unsigned flag
     Address to;
     if (head.msg_name && head.msg_namelen) to = read_address(world, call, (u64)head.msg_name, head.msg_namelen, false);
     Control control = read_control(world, call, (u64)head.msg_control, head.msg_control ? head.msg_controllen : 0);
-    if (to.error && control.word[0] == 'x') control.error = EINVAL;    // what was given is judged in the order of the layer
+    if (control.is_broken) to = Address(), to.word = "u";    // which the layer refuses (EINVAL), once it has judged the items before
     if (control.error || to.error) co_return fail(control.error ? control.error : to.error);
     co_return co_await send_parts(world, call, std::move(message.parts), std::move(to), std::move(control), flags);
 }
@@ -155,11 +152,12 @@ Task<Result> answer_write(World &world, Call &call) {
     Parts parts{{(void *)a[1], (size_t)a[2]}};
     int error = is_vector ? read_parts(call, a[1], a[2], parts) : 0;
     if (error) co_return fail(error == EMSGSIZE ? EINVAL : error);
+    if (is_vector && !room_of(parts)) co_return done(0);
     Address to;
     if (is_sendto && a[4] && a[5]) to = read_address(world, call, a[4], (long)(int)a[5], false);
     if (to.error) co_return fail(to.error);
     Control none;
-    co_return co_await send_parts(world, call, std::move(parts), std::move(to), std::move(none), is_sendto ? a[3] : 0);
+    co_return co_await send_parts(world, call, std::move(parts), std::move(to), std::move(none), is_sendto ? a[3] : flags_of_vector(call));
 }
 
 Task<Result> answer_sendmsg(World &world, Call &call) { return send_message(world, call, call.data.args[1], call.data.args[2]); }
@@ -172,7 +170,7 @@ Task<Result> answer_sendmmsg(World &world, Call &call) {
         Result result = co_await send_message(world, call, at, a[3]);
         if (result.way == Result::PASS || result.error) co_return messages ? done(messages) : result;
         unsigned sent = result.value;
-        if (!write_value(call.task, at + offsetof(mmsghdr, msg_len), sent)) co_return fail(EFAULT);
+        if (!write_value(call.task, at + offsetof(mmsghdr, msg_len), sent)) co_return messages ? done(messages) : fail(EFAULT);
     }
     co_return done(count);
 }

@@ -1,6 +1,7 @@
 // getsockopt, setsockopt, and the sizes of queues.
 #include <errno.h>
 #include <fcntl.h>
+#include <limits.h>
 #include <string.h>
 #include <sys/ioctl.h>
 #include <sys/syscall.h>
@@ -13,6 +14,8 @@
 #endif
 #define SO_PASS_PIDFD 76
 #define SO_PEER_PIDFD 77
+#define SO_PASS_RIGHTS 83
+#define SO_TELL_QUEUE 84
 
 template <class T> static std::string bytes_of(const T &value) { return std::string((const char *)&value, sizeof value); }
 
@@ -60,6 +63,17 @@ static Result get_peer_pidfd(World &world, Call &call) {
     return number < 0 ? fail(errno) : give_value(call, bytes_of(number));
 }
 
+// As getpeername tells it, and never more than it is.
+static Result get_peer_name(World &world, Call &call) {
+    Reply reply = world.say(*call.process, "peername " + text(call.number->layer));
+    if (reply.error) return fail(reply.error);
+    std::string name = address_bytes(world, std::string(reply.word(1)));
+    unsigned room = 0;
+    if (!read_value(call.task, call.data.args[4], room)) return fail(EFAULT);
+    if (room > name.size()) return fail(EINVAL);
+    return give_value(call, name);
+}
+
 static const char *option_word(int option) {
     switch (option) {
     case SO_TYPE: return "type";
@@ -85,11 +99,13 @@ Result answer_getsockopt(World &world, Call &call) {
     switch (option) {
     case SO_PEERCRED: return get_peer(world, call);
     case SO_PEERGROUPS: return get_peer_groups(world, call);
+    case SO_PEERNAME: return get_peer_name(world, call);
     case SO_PEER_PIDFD: return get_peer_pidfd(world, call);
     case SO_SNDBUF: return give_value(call, bytes_of(call.number->file->send_room));
     case SO_RCVBUF: return give_value(call, bytes_of(call.number->file->receive_room));
     case SO_PEEK_OFF: return give_value(call, bytes_of(-1));
-    case SO_PASS_PIDFD: return give_value(call, bytes_of(0));
+    case SO_PASS_PIDFD: case SO_TELL_QUEUE: return give_value(call, bytes_of(0));
+    case SO_PASS_RIGHTS: return give_value(call, bytes_of(1));
     }
     return pass();                             // the placeholder knows it
 }
@@ -112,49 +128,52 @@ static Result set_credentials(World &world, Call &call, int value) {
 // Told as they were set, doubled as Linux does; the layer's queues have a limit of their own.
 static Result set_room(const World &world, Call &call, int option, int value) {
     Description &own = *call.number->file;
-    bool sends = option == SO_SNDBUF, forced = option == SO_SNDBUFFORCE || option == SO_RCVBUFFORCE;
-    if (sends || option == SO_SNDBUFFORCE) own.send_room = std::max(2 * (forced ? value : std::min(value, world.send_maximum)), 4608);
-    else own.receive_room = std::max(2 * (forced ? value : std::min(value, world.receive_maximum)), 2304);
+    bool sends = option == SO_SNDBUF || option == SO_SNDBUFFORCE, forced = option == SO_SNDBUFFORCE || option == SO_RCVBUFFORCE;
+    if (forced && call.process->user != 0) return fail(EPERM);
+    unsigned most = forced ? INT_MAX / 2 : sends ? world.send_maximum : world.receive_maximum;
+    int room = 2 * (int)std::min(forced ? (unsigned)std::max(value, 0) : (unsigned)value, most);    // a number below 0 is a great one
+    if (sends) own.send_room = std::max(room, 4608);
+    else own.receive_room = std::max(room, 2304);
     return done(0);
 }
 
+// What is asked for and the layer doesn't have; null where it has, or Linux's sockets of this kind take no notice either.
+static const char *lacking(const Description &own, int option, int value) {
+    switch (option) {
+    case SO_PASS_PIDFD: return value ? "the layer's messages carry no pidfd (SO_PASSPIDFD)" : nullptr;
+    case SO_PASS_RIGHTS: return value ? nullptr : "the layer's sockets always take open files (SO_PASSRIGHTS)";
+    case SO_TELL_QUEUE: return value ? "a receive doesn't tell what is left (SO_INQ)" : nullptr;
+    case SO_TIMESTAMP_OLD: case SO_TIMESTAMPNS_OLD: case SO_TIMESTAMP_NEW: case SO_TIMESTAMPNS_NEW:
+        return value && !own.is_stream() ? "the layer's messages have no time (SO_TIMESTAMP)" : nullptr;
+    case SO_ATTACH_FILTER: case SO_ATTACH_BPF: return own.is_stream() ? nullptr : "the layer's sockets take no filter (SO_ATTACH_FILTER)";
+    case SO_PEEK_OFF: return value < 0 ? nullptr : "the layer peeks at the front alone (SO_PEEK_OFF)";
+    }
+    return nullptr;
+}
+
 Result answer_setsockopt(World &world, Call &call) {
+    Description &own = *call.number->file;
     int option = call.argument(2), value = 0;
     if (call.argument(1) != SOL_SOCKET) return fail(EOPNOTSUPP);
-    switch (option) {
-    case SO_PASSCRED: case SO_SNDBUF: case SO_RCVBUF: case SO_SNDBUFFORCE: case SO_RCVBUFFORCE: case SO_PASS_PIDFD: case SO_PEEK_OFF:
-        if (call.argument(4) < (int)sizeof value) return fail(EINVAL);
-        if (!read_value(call.task, call.data.args[3], value)) return fail(EFAULT);
-    }
+    if (call.argument(4) < (int)sizeof value) return fail(EINVAL);
+    if (!read_value(call.task, call.data.args[3], value)) return fail(EFAULT);
+    if (const char *why = lacking(own, option, value)) return world.refuse(call, option == SO_PEEK_OFF ? EOPNOTSUPP : ENOPROTOOPT, why);
     switch (option) {
     case SO_PASSCRED: return set_credentials(world, call, value);
-    case SO_SNDBUFFORCE: case SO_RCVBUFFORCE:
-        if (call.process->user != 0) return fail(EPERM);
-        [[fallthrough]];
-    case SO_SNDBUF: case SO_RCVBUF: return set_room(world, call, option, value);
-    case SO_PASS_PIDFD: return world.refuse(call, ENOPROTOOPT, "the layer's messages carry no pidfd (SO_PASSPIDFD)");
-    case SO_PEEK_OFF: return value < 0 ? done(0) : world.refuse(call, EOPNOTSUPP, "the layer peeks at the front alone (SO_PEEK_OFF)");
+    case SO_SNDBUF: case SO_RCVBUF: case SO_SNDBUFFORCE: case SO_RCVBUFFORCE: return set_room(world, call, option, value);
+    case SO_PASS_PIDFD: case SO_PASS_RIGHTS: case SO_TELL_QUEUE: case SO_PEEK_OFF: return done(0);
+    case SO_RCVLOWAT: own.least_received = value < 0 ? INT_MAX : std::max(value, 1); return pass();
     }
     return pass();
 }
 
-static long first_datagram(World &world, Call &call) {
-    Reply reply = world.say(*call.process, "recv " + text(call.number->layer) + " 1048576 0 pt");
-    return reply.ok() ? reply.number(1) : 0;
-}
-
-// How much the other end hasn't read.
-static long unread_by_peer(const World &world, const Description &own) {
-    auto peer = world.files.find(world.layer->holders()[own.id].peer);
-    return peer == world.files.end() ? 0 : peer->second->told.bytes;
-}
-
-// FIONREAD: what a receive would find. TIOCOUTQ: what the other end hasn't read.
+// FIONREAD and TIOCOUTQ. What memory a datagram socket's messages take is nothing that the layer has.
 Result answer_queue_size(World &world, Call &call) {
-    const Description &own = *call.number->file;
-    bool reads = call.data.args[1] == FIONREAD;
-    if (own.listening && reads) return fail(EINVAL);
-    long found = !reads ? unread_by_peer(world, own) : own.kind == DATAGRAM ? first_datagram(world, call) : own.told.bytes;
-    int value = (int)found;
+    bool reads = (unsigned)call.data.args[1] == FIONREAD;
+    if (!reads && call.number->file->kind == DATAGRAM)
+        return world.refuse(call, EOPNOTSUPP, "the layer doesn't tell what a datagram socket has sent (TIOCOUTQ)");
+    Reply reply = world.say(*call.process, (reads ? "inq " : "outq ") + text(call.number->layer));
+    if (reply.error) return fail(reply.error);
+    int value = (int)reply.number(1);
     return write_value(call.task, call.data.args[2], value) ? done(0) : fail(EFAULT);
 }

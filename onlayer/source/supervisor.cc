@@ -16,7 +16,7 @@
 static const int IDLE = 1000;                  // milliseconds after which a deadlock is looked for
 static const int MOST_READY = 16;              // events at once
 
-static sigset_t watched_signals() {
+sigset_t watched_signals() {
     sigset_t all;
     sigemptyset(&all);
     for (int signal : {SIGCHLD, SIGUSR1, SIGINT, SIGTERM, SIGHUP, SIGQUIT}) sigaddset(&all, signal);
@@ -77,12 +77,22 @@ void Supervisor::begin(Call &call) {
     world.begin(call);
 }
 
+// A signal that asks onlayer to end is for the command, and where that has ended for all that it has left.
+void Supervisor::pass_on(const signalfd_siginfo &info) {
+    bool is_terminals = info.ssi_code > 0;     // the terminal has sent it to the command too
+    if (world.by_task.count(tracer.root)) {
+        if (!is_terminals) kill(tracer.root, info.ssi_signo);
+        return;
+    }
+    for (auto &process : world.processes)
+        if (!process->tasks.empty()) kill(process->pid, info.ssi_signo);
+}
+
 void Supervisor::take_signals() {
     signalfd_siginfo info;
     while (read(signals.get(), &info, sizeof info) == sizeof info) {
         if (info.ssi_signo == SIGUSR1) report_now(world);
-        bool is_terminal = info.ssi_code > 0;  // the terminal has sent it to the program too
-        if (info.ssi_signo != SIGCHLD && info.ssi_signo != SIGUSR1 && !is_terminal) kill(tracer.root, info.ssi_signo);
+        else if (info.ssi_signo != SIGCHLD) pass_on(info);
     }
     tracer.reap();
 }
@@ -126,7 +136,6 @@ void Supervisor::wait_for_something() {
 
 int Supervisor::run() {
     sigset_t watched = watched_signals();
-    sigprocmask(SIG_BLOCK, &watched, nullptr);
     signal(SIGPIPE, SIG_IGN);
     signals.reset(signalfd(-1, &watched, SFD_CLOEXEC | SFD_NONBLOCK));
     world.await(signals.get());

@@ -2,8 +2,11 @@
 #pragma once
 #include <signal.h>
 #include <sys/epoll.h>
+#include <sys/signalfd.h>
 #include "outside.h"
 #include "tracer.h"
+
+sigset_t watched_signals();                     // that onlayer takes from a file, blocked before anything is started
 
 class Supervisor {
     World &world;
@@ -16,6 +19,7 @@ class Supervisor {
     Process *process_of(const Call &call);
     void begin(Call &call);
     void take_signals();
+    void pass_on(const signalfd_siginfo &info);
     void look_for_deadlock(bool was_idle);
     void handle_event(const epoll_event &event);
     void wait_for_something();

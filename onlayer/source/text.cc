@@ -5,6 +5,8 @@
 #include <sys/syscall.h>
 #include <map>
 
+static const int LAST_ERRNO = 133;             // EHWPOISON
+
 std::vector<std::string> split(const std::string &text, char by) {
     std::vector<std::string> parts;
     size_t from = 0;
@@ -53,25 +55,15 @@ std::string name_bytes(const std::string &word) {
     return bytes;
 }
 
-static const std::map<std::string, int> &errors() {
-    static const std::map<std::string, int> all = {
-#define E(name) {#name, name}
-        E(EPERM), E(ENOENT), E(ESRCH), E(EINTR), E(EIO), E(ENXIO), E(EBADF), E(EAGAIN), E(ENOMEM), E(EACCES), E(EFAULT), E(EBUSY),
-        E(EEXIST), E(ENODEV), E(ENOTDIR), E(EISDIR), E(EINVAL), E(ENFILE), E(EMFILE), E(EFBIG), E(ENOSPC), E(ESPIPE), E(EROFS),
-        E(EPIPE), E(ERANGE), E(ENAMETOOLONG), E(ENOSYS), E(ENOTSOCK), E(EDESTADDRREQ), E(EMSGSIZE), E(EPROTOTYPE), E(ENOPROTOOPT),
-        E(EOPNOTSUPP), E(EADDRINUSE), E(ECONNABORTED), E(ECONNRESET), E(ENOBUFS), E(EISCONN), E(ENOTCONN), E(ETOOMANYREFS),
-        E(ETIMEDOUT), E(ECONNREFUSED), E(EINPROGRESS), E(ENODATA), E(ELOOP)};
-#undef E
-    return all;
-}
+// By the C library's names, so that none is missing.
 int errno_of(const std::string &name) {
-    auto found = errors().find(name);
-    return found == errors().end() ? 0 : found->second;
+    for (int error = 1; error <= LAST_ERRNO; error++)
+        if (const char *known = strerrorname_np(error); known && name == known) return error;
+    return 0;
 }
 std::string errno_name(int error) {
-    for (auto &[name, number] : errors())
-        if (number == error) return name;
-    return "error " + text(error);
+    const char *name = strerrorname_np(error);
+    return name ? name : "error " + text(error);
 }
 
 static const std::map<std::string, int> &calls() {
@@ -81,7 +73,7 @@ static const std::map<std::string, int> &calls() {
         C(getsockopt), C(setsockopt), C(sendto), C(sendmsg), C(sendmmsg), C(recvfrom), C(recvmsg), C(recvmmsg), C(read), C(write),
         C(readv), C(writev), C(preadv2), C(pwritev2), C(sendfile), C(splice), C(close), C(close_range), C(dup), C(dup2), C(dup3),
         C(fcntl), C(ioctl), C(setuid), C(setgid), C(setreuid), C(setregid), C(setresuid), C(setresgid), C(setgroups), C(pidfd_getfd),
-        C(io_uring_setup), C(ptrace), C(prctl), C(unshare)};
+        C(io_uring_setup), C(io_submit), C(seccomp), C(ptrace), C(prctl), C(unshare)};
 #undef C
     return all;
 }

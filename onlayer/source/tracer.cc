@@ -70,10 +70,16 @@ void Tracer::close_on_exec(Process &process, int task) {
     world.drop(process, closed, false);
 }
 
+// A name as the program spells it.
+static std::string spelled(const World &world, const std::string &word) {
+    if (word.empty()) return "without a name";
+    return word[0] == 'a' ? "@" + name_bytes(word.substr(2)) : world.names.spelling(word);
+}
+
 void Tracer::note_inherited(Process &process) {
     for (auto &[number, entry] : process.table)
         if (entry->file->listening)
-            world.inherited.push_back({entry, {process.program, entry->file->name, process.pid, number}});
+            world.inherited.push_back({entry, {process.program, spelled(world, entry->file->name), process.pid, number}});
 }
 
 void Tracer::executed(int task, int before) {
@@ -152,7 +158,7 @@ void Tracer::watch(Process &process, int task) {
     u64 page = injection.call(SYS_mmap, {0, size, PROT_READ | PROT_WRITE, MAP_PRIVATE | MAP_ANONYMOUS, ~0ull, 0});
     sock_fprog program = {(unsigned short)code.size(), (sock_filter *)(page + sizeof program)};
     bool is_there = write_value(task, page, program) && write_memory(task, page + sizeof program, code.data(), code.size() * sizeof code[0]);
-    long number = is_there ? injection.call(SYS_seccomp, {SECCOMP_SET_MODE_FILTER, flags, page, 0, 0, 0}) : -EFAULT;
+    long number = is_there ? injection.call(SYS_seccomp, {SECCOMP_SET_MODE_FILTER, flags, page, UNTOLD, 0, 0}) : -EFAULT;
     File listener = number < 0 ? File() : take_file(process.pid, (int)number);
     if (number >= 0) injection.call(SYS_close, {(u64)number, UNTOLD, 0, 0, 0, 0});
     injection.call(SYS_munmap, {page, size, 0, 0, 0, 0});

@@ -88,7 +88,7 @@ void World::cancel(unsigned pended) {
 
 Task<Reply> World::ask(Call &call, std::string words, unsigned flags, int limit_option) {
     if (!waits(call, flags)) co_return say(*call.process, words);
-    sync_ids(*call.process);
+    if (!sync_ids(*call.process)) co_return Reply::of_error(ENFILE);
     unsigned number = ++last_pending;
     std::optional<Reply> reply = layer->pend(number, call.process->layer, words);
     if (reply) co_return std::move(*reply);

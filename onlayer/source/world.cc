@@ -77,25 +77,41 @@ void World::name_in_layer(Process &process, int number) {
     layer->note("process " + text(process.pid) + " is " + text(number) + " " + process.program);
 }
 
-// A process gets its number in the layer when it needs one, from one without descriptors.
-void World::enlist(Process &process) {
-    if (process.layer) return;
-    Reply reply = layer->make(FIRST, "fork");
-    if (!reply.ok()) throw Fault("the layer makes no further process: " + reply.text);
-    process.user = own_user, process.group = own_group;
-    name_in_layer(process, reply.number(1));
+// The layer's number of a child without descriptors; -1 where it makes no further process.
+int World::make_process(int parent) {
+    try {
+        Reply reply = layer->make(parent, "fork");
+        return reply.ok() ? (int)reply.number(1) : -1;
+    } catch (const LineRefused &) {
+        return -1;
+    }
 }
 
-void World::sync_ids(Process &process) {
-    enlist(process);
-    if (!process.ids_changed) return;
+// A process gets its number in the layer when it needs one. Whether it has one.
+bool World::enlist(Process &process) {
+    if (process.layer) return true;
+    int number = make_process(FIRST);
+    if (number < 0) {
+        counts.refused++;
+        complain("refused: a socket for " + title(process) + ": the layer makes no further process; it is answered with ENFILE");
+        return false;
+    }
+    process.user = own_user, process.group = own_group;
+    name_in_layer(process, number);
+    return true;
+}
+
+bool World::sync_ids(Process &process) {
+    if (!enlist(process)) return false;
+    if (!process.ids_changed) return true;
     process.ids_changed = false;
     Status status = status_of(process.pid);
     process.groups = status.groups;
-    if (status.effective_user == process.user && status.effective_group == process.group) return;
+    if (status.effective_user == process.user && status.effective_group == process.group) return true;
     Reply reply = layer->make(process.layer, "setids " + text(status.effective_user) + " " + text(status.effective_group));
     if (reply.ok()) process.user = status.effective_user, process.group = status.effective_group;
     else complain(title(process) + ": the layer refuses its ids: " + reply.text);
+    return true;
 }
 
 int World::real_pid(long number) const {
@@ -106,20 +122,17 @@ int World::real_pid(long number) const {
 }
 
 int World::guest(uid_t user, gid_t group) {
-    Reply reply = layer->make(GUEST_MAKER, "fork");
-    if (!reply.ok()) return -1;
-    int number = (int)reply.number(1);
-    if (user != 0 || group != 0) layer->make(number, "setids " + text(user) + " " + text(group));
+    int number = make_process(GUEST_MAKER);
+    if (number >= 0 && (user != 0 || group != 0)) layer->make(number, "setids " + text(user) + " " + text(group));
     return number;
 }
 
 Reply World::say(Process &process, const std::string &words) {
-    sync_ids(process);
-    return layer->make(process.layer, words);
+    return sync_ids(process) ? layer->make(process.layer, words) : Reply::of_error(ENFILE);
 }
 
 std::vector<Reply> World::say_all(Process &process, const std::vector<std::string> &calls) {
-    sync_ids(process);
+    if (!sync_ids(process)) return std::vector<Reply>(calls.size(), Reply::of_error(ENFILE));
     return layer->make_all(process.layer, calls);
 }
 
@@ -285,7 +298,7 @@ int World::adopt(Call &call, int number) {
     Process &process = *call.process;
     File file = take_file(process.pid, number);
     if (!file) return -EBADF;
-    sync_ids(process);
+    if (!sync_ids(process)) return -ENFILE;
     if (NumberRef known = find_held(call, number)) {
         Reply reply = say(process, "dup " + text(known->layer));
         if (!reply.ok()) return -reply.error;

@@ -43,8 +43,9 @@ class World {
 
     void take_told(int description, const Told &told);
     void forget(Ref file);
-    void enlist(Process &process);
-    void sync_ids(Process &process);
+    int make_process(int parent);
+    bool enlist(Process &process);
+    bool sync_ids(Process &process);
     int give(Call &call, const Gift &gift);
     NumberRef find_held(Call &call, int number);
     void raise_sigpipe(Call &call);
