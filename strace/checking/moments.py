@@ -18,6 +18,8 @@ if TYPE_CHECKING:
 # A line of a log, and by process and number what /proc said then.
 Moment = tuple[int, dict[int, dict[int, str]]]
 MARGIN = 0.001
+# How long a call may begin behind the time that strace notes, on a busy machine.
+LATEST = 0.1
 MOST_TOLD = 5
 
 
@@ -42,9 +44,10 @@ def quiet_moments(log: Log, samples: list[dict[str, Any]], most: int):
 
 
 def busy_times(log: Log):
-    """The stretches of time in which a call that may change a table runs, joined where they overlap."""
-    times = [(call.time, call.ended) for call in log.calls if call.name not in WAITS and None not in (call.time, call.ended)]
-    times += [(call.ended, call.ended) for call in log.calls if call.name in WAITS and call.ended is not None]
+    """The stretches of time in which a call that may change a table runs, joined where they overlap; each up to its thread's next line,
+    or for so long as strace may be late."""
+    times = [(call.ended if call.name in WAITS else call.time, max(call.ended, min(call.latest or 0, call.ended + LATEST)))
+             for call in log.calls if call.time is not None and call.ended is not None]
     times += [(end.time, end.time) for end in log.ends if end.time is not None]
     joined: list[list[float]] = []
     for begin, end in sorted(times):

@@ -22,6 +22,7 @@ NOTE = r'(?:<(?:"[^"]*"|->|[^">])*>)?'
 TAKEN = rf'(?:(?:read|recvfrom)\(\d+{NOTE}, |recvmsg\(.*iov_base=)'
 CHANGES_SOMETHING = (r"(?:close|dup2|dup3|bind|listen|connect|write|sendto|sendmsg|read|recvfrom|recvmsg|shutdown|socket|socketpair|"
                      r"accept4?)\(")
+NOTHING = "close|bind|listen|connect|shutdown|getsockname|getsockopt|setsockopt|socketpair|pipe2?|ftruncate|setuid|execve"
 ERRORS = {"EAGAIN": "ECONNRESET", "ENOENT": "ECONNREFUSED", "ECONNREFUSED": "ENOENT", "EPIPE": "ENOTCONN", "EBADF": "EINVAL"}
 
 
@@ -50,6 +51,11 @@ KINDS = [
     ("a right's number", r"recvmsg\(.*SCM_RIGHTS, cmsg_data=\[(?P<x>\d+)", (plus(1),)),
     ("flags of a message", r"recvmsg\(.*msg_flags=(?P<x>0|MSG_[A-Z_|]+)", ("MSG_CTRUNC", "MSG_TRUNC")),
     ("an offset told", r"lseek\(.*\) = (?P<x>\d+)", (plus(1),)),
+    ("how many bytes wait", r"ioctl\(.*(?:FIONREAD|TIOCOUTQ), \[(?P<x>\d+)\]", (plus(1), plus(7))),
+    ("a size or seals", r"(?:F_GET_SEALS\) = |getsockopt\(.*SO_(?:SND|RCV)BUF, \[)(?P<x>0x[0-9a-f]+|\d+)", (bits(1),)),
+    ("an answer for an error", rf"{RESULT}(?P<x>-1 (?:EAGAIN|EBADF|EPIPE|ENOTCONN|EINVAL|ESPIPE|ENOTTY)\b.*)", ("0", "1")),
+    ("an answer of nothing", rf"(?:{NOTHING})\(.*\) = (?P<x>0)(?:$| <)", ("1",)),
+    ("a process's number", r"\b(?:v?fork|clone3?)\(.*\) = (?P<x>[1-9]\d*)", (plus(100),)),
     ("which descriptor", r"(?:read|write|recvmsg|sendmsg|recvfrom|sendto|listen|shutdown)\((?P<x>\d+)", (plus(5),)),
     ("a call left out", rf"(?P<x>^.*{CHANGES_SOMETHING}.*\) = (?!-1 ).*$)", ("",)),
 ]

@@ -43,7 +43,8 @@ class Result:
 
 @dataclass(slots=True)
 class Call:
-    """A call: its thread, its name, its text behind the opening bracket, and the lines where it began and ended."""
+    """A call: its thread, its name, its text behind the opening bracket, and the lines where it began and ended; when it began, when it
+    ended if it began at once, and when it had ended at the latest, since its thread went on."""
     thread: int
     name: str
     text: str
@@ -51,6 +52,7 @@ class Call:
     end: int
     time: float | None
     ended: float | None
+    latest: float | None = None
 
     def read(self):
         """Arguments and result, or the fault Unreadable."""
@@ -118,6 +120,7 @@ class Joiner:
         self.log = Log(Head())
         self.pending: dict[int, Line] = {}
         self.last_line: dict[int, int] = {}
+        self.last_call: dict[int, Call] = {}
 
     def add(self, number: int, text: str) -> None:
         log = self.log
@@ -129,6 +132,10 @@ class Joiner:
         if line.time is not None:
             log.first_time = line.time if log.first_time is None else log.first_time
             log.last_time = line.time
+        # strace notes the time before a call, and may be off the processor before it lets the call begin.
+        last = self.last_call.pop(line.thread, None)
+        if last is not None:
+            last.latest = line.time
         self.take(line)
         self.last_line[line.thread] = number
 
@@ -160,7 +167,10 @@ class Joiner:
         self.log.answered += ANSWER.search(text) is not None
         took = TOOK.search(text[-24:])
         ended = time + float(took[1]) if took and time is not None else line.time
-        self.log.calls.append(Call(line.thread, name, text, begin, line.number, time, ended))
+        call = Call(line.thread, name, text, begin, line.number, time, ended, line.time if begin < line.number else None)
+        self.log.calls.append(call)
+        if begin == line.number:
+            self.last_call[line.thread] = call
 
     def end(self, line: Line) -> None:
         killed = line.rest.split()[3] if line.name == "killed" else ""

@@ -13,7 +13,7 @@ getpgrp getpgid setpgid setsid getsid arch_prctl prctl set_tid_address set_robus
 setrlimit rt_sigaction rt_sigprocmask rt_sigreturn sigaltstack futex sched_getaffinity sched_setaffinity sched_yield
 nanosleep clock_nanosleep clock_gettime getrandom uname sysinfo umask getuid geteuid getgid getegid getresuid getresgid
 getgroups getcwd alarm setitimer pause restart_syscall times getrusage getcpu membarrier
-timerfd_settime timerfd_gettime inotify_add_watch inotify_rm_watch fanotify_mark fallocate truncate
+timerfd_settime timerfd_gettime inotify_add_watch inotify_rm_watch fanotify_mark truncate
 quotactl_fd mount umount2 pivot_root swapon swapoff cachestat personality capget capset setpriority getpriority
 """.split())
 
@@ -33,6 +33,6 @@ io_uring_setup landlock_create_ruleset
 """.split())
 
 OUTSIDE_ERRORS = frozenset("""
-EACCES EFAULT ENOTDIR ELOOP EROFS ENAMETOOLONG EMFILE ENFILE EINTR ENOMEM ENOBUFS ENOSPC EISDIR
+EACCES EFAULT ENOTDIR ELOOP EROFS ENAMETOOLONG EMFILE ENFILE EINTR ENOMEM ENOBUFS ENOSPC EISDIR ENOSYS
 EAFNOSUPPORT EPROTONOSUPPORT ESOCKTNOSUPPORT ERESTARTSYS ERESTARTNOINTR ERESTARTNOHAND ERESTART_RESTARTBLOCK
 """.split())

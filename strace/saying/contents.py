@@ -4,6 +4,7 @@ from __future__ import annotations
 from typing import TYPE_CHECKING, Any
 
 from reading.words import Text, after, number_of
+from . import doubts
 from .descriptors import note_of, on_unix
 from .model import WHOLE, Kind
 from .sockets import skipped
@@ -36,7 +37,16 @@ def data_of(world: World, value: Any, length: int | None = None):
 
 def told_bytes(world: World, value: Any, count: int):
     """The bytes that a receive got, as many as it answered: a log that shows fewer has zeros for the rest, which differ."""
+    whole = whole_texts(after(value))
+    if whole is not None and sum(map(len, whole)) != count and world.current is not None:
+        world.doubts.add(doubts.COUNT, world.current)
     return data_of(world, value, count)[:count].ljust(count, b"\0")
+
+
+def whole_texts(value: Any):
+    """The strings of a buffer or of a list of buffers, or None where the log has one of them only in part, or not at all."""
+    texts = [after(one.get("iov_base")) for one in value if isinstance(one, dict)] if isinstance(value, list) else [value]
+    return [one.data for one in texts] if all(isinstance(one, Text) and not one.cut for one in texts) else None
 
 
 def sayable(world: World, block: Block, process: Process, value: Any, name: str):

@@ -1,11 +1,12 @@
-"""Says the calls on descriptor tables: close, close_range, dup, dup2, dup3, fcntl and ioctl."""
+"""Says the calls on descriptor tables: close, close_range, dup, dup2, dup3 and fcntl."""
 from __future__ import annotations
 
 from typing import TYPE_CHECKING, Any
 
+from reading.effects import OUTSIDE_ERRORS
 from reading.words import Descriptor, flags_of, number_of
 from . import doubts
-from .amounts import WAITING, say_waiting
+from .amounts import say_room
 from .limits import say_seals
 from .model import Description, Kind, Slot
 from .world import HIGHEST, says
@@ -16,10 +17,6 @@ if TYPE_CHECKING:
     from .model import Block, Process
     from .world import World
 
-FLAG_REQUESTS = {"FIONBIO", "FIOCLEX", "FIONCLEX"}
-QUERY_REQUESTS = {"TIOCOUTQ", "SIOCOUTQ", "FIOASYNC", "SIOCATMARK"}
-MAKES_NUMBER = {"TIOCGPTPEER", "SIOCUNIXFILE", "NS_GET_USERNS", "NS_GET_PARENT", "SECCOMP_IOCTL_NOTIF_ADDFD"}
-O_CLOEXEC = 0o2000000
 O_APPEND, O_NONBLOCK, O_ASYNC = 0o2000, 0o4000, 0o20000
 O_ACCMODE, O_WRONLY, O_RDWR = 3, 1, 2
 MODES = {0: "r", O_WRONLY: "w", O_RDWR: "rw"}
@@ -30,6 +27,12 @@ FORGETS = 4294967295
 
 def note_of(value: Any):
     return value.note if isinstance(value, Descriptor) else ""
+
+
+def is_closed(process: Process, value: Any) -> bool:
+    """Whether a number leads to nothing, for the log too, which has no note of it then."""
+    number = number_of(value, -1)
+    return 0 <= number <= HIGHEST and number not in process.table and not note_of(value)
 
 
 def make_pidfd(world: World, block: Block, process: Process, number: int) -> None:
@@ -45,12 +48,9 @@ def on_unix(block: Block, slot: Slot | None) -> None:
 @says("close")
 def say_close(world: World, block: Block, process: Process, args: Arguments, result: Result) -> None:
     number = number_of(args[0])
-    if result.error and result.error != "EBADF":
-        block.leave_out("close that failed with another error")
-        return
-    if result.error:
-        word = number if 0 <= number <= HIGHEST else FORGETS
-        world.step(block, process.seat, f"close {word}", f"err {result.error}", state="closed")
+    there = process.table.get(number)
+    if result.error and (result.error == "EBADF" or there is None or there.description.kind is not Kind.OPAQUE):
+        world.step(block, process.seat, f"close {clipped(number)}", f"err {result.error}", state="closed")
         return
     slot = world.slot(block, process, number, note_of(args[0]))
     if slot is None:
@@ -58,13 +58,15 @@ def say_close(world: World, block: Block, process: Process, args: Arguments, res
         world.doubts.add(doubts.CLOSE_OF_NO_ORIGIN, block)
         block.leave_out("close of a descriptor that the log doesn't show opened")
         return
-    close(world, block, process, number, slot)
+    close(world, block, process, number, slot, None if result.error else "ok")
+    if result.error:
+        block.otherwise("a close of an opaque object that failed: the number is free all the same")
 
 
-def close(world: World, block: Block, process: Process, number: int, slot: Slot) -> None:
+def close(world: World, block: Block, process: Process, number: int, slot: Slot, told: str | None = "ok") -> None:
     on_unix(block, slot)
     if number <= HIGHEST:
-        world.step(block, process.seat, f"close {number}", "ok", slot.description)
+        world.step(block, process.seat, f"close {number}", told, slot.description)
     world.drop(process, number)
 
 
@@ -104,7 +106,7 @@ def say_dup(world: World, block: Block, process: Process, args: Arguments, resul
 def say_dup2(world: World, block: Block, process: Process, args: Arguments, result: Result) -> None:
     source, target = number_of(args[0]), number_of(args[1])
     if result.error or result.value is None:
-        refuse(world, block, process, f"dup2 {source} {target}", result, "EBADF", source, target)
+        refuse(world, block, process, f"dup2 {clipped(source)} {clipped(target)}", result)
         return
     slot = world.slot(block, process, source, note_of(args[0]) or result.note)
     if slot is None or max(source, target) > HIGHEST:
@@ -118,12 +120,21 @@ def say_dup2(world: World, block: Block, process: Process, args: Arguments, resu
         block.otherwise("dup3 as dup2 and flags")
 
 
-def refuse(world: World, block: Block, process: Process, words: str, result: Result, known: str, *numbers: int) -> None:
-    """A call that failed: said where the layer knows its error."""
-    if result.error == known and all(0 <= number <= HIGHEST for number in numbers):
-        world.step(block, process.seat, words, f"err {result.error}")
+def clipped(number: int) -> int:
+    """A number as a script may have it: what can't be a descriptor's is one that the layer hasn't either."""
+    return number if 0 <= number <= HIGHEST else FORGETS
+
+
+def refuse(world: World, block: Block, process: Process, words: str, result: Result) -> None:
+    """A call that failed: said but where it failed for what the layer doesn't have (dup(2), fcntl(2))."""
+    name = block.call.name
+    has_limits = name == "dup3" or name.startswith("fcntl")
+    if not result.error:
+        block.leave_out(f"{name} without an answer")
+    elif result.error in OUTSIDE_ERRORS or result.error == "EBUSY" or result.error == "EINVAL" and has_limits:
+        block.leave_out(f"{name} that failed: {result.error}")
     else:
-        block.leave_out(f"{block.call.name} that failed: {result.error}" if result.error else f"{block.call.name} without an answer")
+        world.step(block, process.seat, words, f"err {result.error}")
 
 
 def put_at(world: World, block: Block, process: Process, source: int, target: int, slot: Slot, on_exec: bool) -> None:
@@ -145,25 +156,34 @@ def put_at(world: World, block: Block, process: Process, source: int, target: in
 def duplicate(world: World, block: Block, process: Process, value: Any, result: Result, least: int, on_exec: bool) -> None:
     """dup and F_DUPFD where the lowest free number from the minimum on is the one given, else dup2."""
     source = number_of(value)
-    words = f"dupfd {source} {least}" if least else f"dup {source}"
+    words = f"dupfd {clipped(source)} {clipped(least)}" if least else f"dup {clipped(source)}"
     if result.error or result.value is None:
-        refuse(world, block, process, words, result, "EBADF", source)
+        refuse(world, block, process, words, result)
         return
     slot = world.slot(block, process, source, note_of(value) or result.note)
     if slot is None or max(source, result.value) > HIGHEST:
         block.not_at_all("a descriptor that isn't known")
         return
     on_unix(block, slot)
-    if result.value == process.lowest(least):
+    world.doubts.given(block, process, result.value)
+    if result.value in process.table:
+        world.gone(block, process, result.value)
+    if result.value <= process.lowest(least):
         world.step(block, process.seat, words, f"fd {result.value}", slot.description)
-        process.table[result.value] = copy = Slot(slot.description, on_exec)
-        if slot.description.thing is not None:
-            slot.description.thing.ends += 1
-        if on_exec:
-            set_flags(world, block, process, result.value, copy)
+        copy_to(world, block, process, slot, result.value, on_exec)
     else:
+        world.doubts.pass_over(block, process, result.value, least)
         put_at(world, block, process, source, result.value, slot, on_exec)
         block.otherwise("dup to a number that isn't the lowest: dup2")
+
+
+def copy_to(world: World, block: Block, process: Process, slot: Slot, number: int, on_exec: bool) -> None:
+    """A further descriptor of the same description."""
+    process.table[number] = copy = Slot(slot.description, on_exec)
+    if slot.description.thing is not None:
+        slot.description.thing.ends += 1
+    if on_exec:
+        set_flags(world, block, process, number, copy)
 
 
 @says("fcntl", "fcntl64")
@@ -188,6 +208,9 @@ def say_fcntl(world: World, block: Block, process: Process, args: Arguments, res
         take_flags(slot, request, args[2])
         set_flags(world, block, process, number, slot)
         block.otherwise("fcntl as flags")
+    elif request in ("F_SETPIPE_SZ", "F_GETPIPE_SZ") and not result.error and result.value is not None:
+        say_room(world, block, process.table.get(number), number_of(args[2]) if request == "F_SETPIPE_SZ" else None, result.value)
+        block.leave_out(f"fcntl {request}")
     elif request in ("F_ADD_SEALS", "F_GET_SEALS"):
         say_seals(world, block, process, number, request, args[-1], result)
     else:
@@ -235,33 +258,3 @@ def take_flags(slot: Slot, request: str, value: Any) -> None:
         slot.description.nonblocking = bool(flags & {"O_NONBLOCK", "O_NDELAY"})
         slot.description.append = "O_APPEND" in flags
         slot.description.is_given = False
-
-
-@says("ioctl")
-def say_ioctl(world: World, block: Block, process: Process, args: Arguments, result: Result) -> None:
-    number, request = number_of(args[0]), str(args[1])
-    slot = process.table.get(number)
-    on_unix(block, slot)
-    if result.error:
-        block.leave_out(f"ioctl {request} that failed" if block.unix else "ioctl that failed")
-    elif request in FLAG_REQUESTS:
-        slot = world.slot(block, process, number, note_of(args[0]))
-        if slot is None or number > HIGHEST:
-            block.not_at_all("a descriptor that isn't known")
-            return
-        if request == "FIONBIO":
-            slot.description.nonblocking = bool(number_of(args[2], 0))
-        else:
-            slot.on_exec = request == "FIOCLEX"
-        set_flags(world, block, process, number, slot)
-        block.otherwise(f"{request} as flags")
-    elif result.note or request in MAKES_NUMBER:
-        description = Description(Kind.OPAQUE, result.note or request, inode=result.note)
-        world.make(block, process, result.number, description, "O_CLOEXEC" in block.call.text or bool(number_of(args[2], 0) & O_CLOEXEC))
-        block.otherwise(f"a new number by ioctl {request}: an opaque object")
-    elif request in WAITING:
-        say_waiting(world, block, slot, args[2])
-    elif block.unix and request not in QUERY_REQUESTS:
-        world.unknown_effect(block, process, args)
-    else:
-        block.leave_out(f"ioctl {request}" if block.unix else "ioctl of an opaque object")

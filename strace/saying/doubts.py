@@ -13,12 +13,15 @@ NOT_CLOSED = "a number given anew that the log doesn't show closed"
 NO_ORIGIN = "a descriptor whose origin the log doesn't show"
 CLOSE_OF_NO_ORIGIN = "a close of a descriptor whose origin the log doesn't show"
 PATH_GONE = "a path that the log doesn't show taken away"
+NO_PARENT = "a process that no call of the log made"
 COUNT = "an answer that isn't the count of what the call lists"
+ANSWER = "an answer that the call doesn't give"
 FLAGS = "flags that the file was not opened with"
 SEALS = "seals that the log doesn't show added"
 SEALED = "a change that a seal forbids"
 AMOUNT = "a number of waiting bytes that isn't what was sent and not received"
 BUFFER = "a buffer's size that isn't the one that was set"
+CREDENTIALS = "credentials of another than who made the pair, or listens"
 OUT_OF_BAND = "out-of-band data that nobody sent"
 MOST_COUNTED = 1000
 
@@ -35,10 +38,10 @@ class Doubts:
     def add(self, text: str, block: Block) -> None:
         self.lines.setdefault(text, []).append(block.call.begin if block.call is not None else 0)
 
-    def pass_over(self, block: Block, process: Process, number: int) -> None:
-        """The kernel gave this number as the lowest free one, so those below it were open. Calls that overlap with this one may have
-        given them, or closed them only later."""
-        new = {one for one in range(number) if one not in process.table and one not in process.unseen}
+    def pass_over(self, block: Block, process: Process, number: int, least: int = 0) -> None:
+        """The kernel gave this number as the lowest free one from a minimum on, so those below it were open. Calls that overlap with this
+        one may have given them, or closed them only later."""
+        new = {one for one in range(least, number) if one not in process.table and one not in process.unseen}
         process.unseen |= new
         new = {one for one in new if process.freed.get(one, -1) < block.begin}
         if new:

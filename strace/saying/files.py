@@ -68,7 +68,7 @@ def say_open(world: World, block: Block, process: Process, args: Arguments, resu
 
 def say_refused_open(world: World, block: Block, process: Process, word: str | None, flags: set[str], error: str) -> None:
     """An open that failed is said where the layer knows why: a socket's path, or one that is there already."""
-    if word and error == "ENXIO" and world.names.bound[word] is not None:
+    if word and error == "ENXIO" and (word in world.names.created or world.names.bound[word] is not None):
         world.step(block, process.seat, f"open {word} r -", f"err {error}")
     elif word and error == "EEXIST":
         world.step(block, process.seat, f"create {word} {access_of(flags)} -", f"err {error}")

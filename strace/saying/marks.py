@@ -13,6 +13,8 @@ if TYPE_CHECKING:
     from .model import Description
 
 NO_MARKS: frozenset = frozenset()
+NOBODY: frozenset = frozenset(("nobody",))
+KEPT: dict[frozenset, frozenset] = {}
 LAYER_BACKLOG = 128
 # From so many messages that wait a sender may be told EAGAIN, here or on Linux: net.unix.max_dgram_qlen is 10 at first.
 MANY_MESSAGES = 10
@@ -22,7 +24,7 @@ TIED_KINDS = (Kind.STREAM, Kind.RECORDS)
 @dataclass(slots=True)
 class Past:
     """What calls left at a socket: SO_PASSCRED on, by a call or from its listener; a name that nobody gave; directions shut down;
-    how many datagrams Linux dropped that wait here, or has still that a read of 0 bytes took here; an error that Linux tells
+    how many datagrams Linux dropped that wait here, and whether what was received meanwhile is what was sent; an error that Linux tells
     first; how its peer went; messages that wait with rights, or from before credentials were asked for; its backlog."""
     passcred: bool = False
     inherits: bool = False
@@ -30,7 +32,7 @@ class Past:
     autobound: bool = False
     shut: set = field(default_factory=set)
     dropped: int = 0
-    ahead: int = 0
+    as_sent: bool = False
     is_reset: bool = False
     lost: str = ""
     rights: int = 0
@@ -65,7 +67,28 @@ def marks_of(description: Description | None, seen_by: Description | None = None
         found.add("half-closed")
     if description.name or past is not None and (past.autobound or past.named_at_once):
         found.add("named")
-    return frozenset(found) if found else NO_MARKS
+    if description.kind in TIED_KINDS and description.phase != "listening":
+        found.add("not-listening")
+    if description.kind is Kind.STREAM and not waits(description):
+        found.add("empty")
+    return kept(found)
+
+
+def kept(found: set[str]):
+    """Marks, of which a long log has the same over and over: each set is kept once."""
+    marks = frozenset(found)
+    return KEPT.setdefault(marks, marks)
+
+
+def marks_of_call(description: Description, other: Description | None, words: str, rights_fly: bool):
+    """The marks of a call's socket, and those of the other one that it concerns; `nobody` is at an address that leads to none."""
+    mine, theirs = marks_of(description), marks_of(other, description)
+    name, _, rest = words.partition(" ")
+    if rights_fly and name == "send" and "r:" in rest:
+        mine = kept({*mine, "rights-fly"})
+    if other is None and name in ("connect", "send") and rest.split(" ", 2)[1][:2] in ("p:", "a:"):
+        theirs = NOBODY
+    return mine, theirs
 
 
 def has_many(description: Description) -> bool:
@@ -85,7 +108,7 @@ def own_marks(description: Description, past: Past):
     told = {
         "passcred": past.passcred, "inherits-passcred": past.inherits, "named-at-once": past.named_at_once,
         "autobound": past.autobound or past.named_at_once, "shut-for-reading": "r" in past.shut, "dropped": past.dropped > 0,
-        "ahead": past.ahead > 0, "reset": past.is_reset, "lost-unread": past.lost == "unread", "lost-empty": past.lost == "empty",
+        "as-sent": past.as_sent, "reset": past.is_reset, "lost-unread": past.lost == "unread", "lost-empty": past.lost == "empty",
         "rights-wait": past.rights > 0, "unsigned": past.unsigned,
         "full": past.backlog is not None and len(description.waiting) >= max(1, min(LAYER_BACKLOG, past.backlog)),
     }
@@ -157,8 +180,6 @@ def leave_send(description: Description, other: Description | None, words: list[
 def leave_receive(description: Description, other: Description | None, words: list[str], reply: str) -> None:
     past = description.past
     is_peek = words[0] == "recv" and "p" in words[4]
-    if words[0] == "read" and words[2] == "0" and reply == "bytes -" and description.kind is not Kind.STREAM and waits(description):
-        past_of(description).ahead += 1
     if past is None or is_peek:
         return
     if reply == "err EAGAIN":
@@ -166,8 +187,6 @@ def leave_receive(description: Description, other: Description | None, words: li
         past.unsigned, past.rights = False, 0
     elif not reply.startswith("err "):
         past.rights = max(0, past.rights - ("r:" in reply))
-        if 0 < past.ahead >= description.pending:
-            past.ahead -= 1
         if description.pending <= 1 and description.kind is not Kind.STREAM:
             past.unsigned = False
     if past.lost == "empty" and description.pending <= 1:
@@ -188,6 +207,13 @@ def waits(description: Description) -> bool:
     if description.kind is Kind.STREAM:
         return description.peer is not None and bool(description.peer.unread)
     return description.pending > 0
+
+
+def compare(description: Description, data: bytes, room: int, by_length: bool) -> None:
+    """Keeps whether what a socket receives, of which Linux dropped datagrams that wait here, is what was sent to it since."""
+    if description.past is not None and description.past.dropped:
+        sent = description.messages[0].data[:room] if description.messages else None
+        description.past.as_sent = sent is not None and (len(sent) == len(data) if by_length else sent == data)
 
 
 def drop_queue(description: Description) -> None:

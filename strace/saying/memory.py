@@ -3,6 +3,7 @@ from __future__ import annotations
 
 from typing import TYPE_CHECKING, Any
 
+from reading.effects import OUTSIDE_ERRORS
 from reading.words import after, flags_of, number_of, room_of
 from . import doubts
 from .contents import data_of, hexadecimal, sayable, told_bytes, told_contents
@@ -13,20 +14,34 @@ from .world import says
 if TYPE_CHECKING:
     from reading.calls import Result
     from reading.words import Arguments
-    from .model import Block, Description, Process
+    from .model import Block, Description, Process, Slot
     from .world import World
 
 AT_THE_OFFSET = -1
+ZEROING = {"FALLOC_FL_PUNCH_HOLE", "FALLOC_FL_ZERO_RANGE"}
 
 
 def memory_of(world: World, block: Block, process: Process, value: Any, result: Result):
     """The slot of a memory file that such a call is said of, or None; the block knows why."""
     name = block.call.name
     slot = process.table.get(number_of(value, -1))
-    if result.error or result.value is None or slot is None or slot.description.kind is not Kind.MEMORY:
-        block.leave_out(f"{name} that failed" if result.error else f"{name} of what isn't a memory file")
+    if result.value is None or slot is None or slot.description.kind is not Kind.MEMORY:
+        block.leave_out(f"{name} of what isn't a memory file")
+        return None
+    has_call = name.startswith(("pread", "pwrite"))
+    if result.error in OUTSIDE_ERRORS or result.error and (not has_call or result.error == "EPERM" and slot.description.thing.seals):
+        block.leave_out(f"{name} that failed: {result.error}")
         return None
     return sayable(world, block, process, value, name)
+
+
+def refused(world: World, block: Block, process: Process, slot: Slot, words: str, offset: int, result: Result) -> None:
+    """A call that failed, as a read or write where the file's offset is: but for what the offset itself is refused for."""
+    if offset < 0:
+        block.leave_out(f"{block.call.name} that failed: {result.error}")
+    else:
+        world.step(block, process.seat, words, f"err {result.error}", slot.description)
+        block.otherwise(f"{block.call.name} that failed as a call without an offset")
 
 
 def at_offset(world: World, block: Block, process: Process, number: int, description: Description, offset: int,
@@ -49,6 +64,9 @@ def say_pread(world: World, block: Block, process: Process, args: Arguments, res
         return
     description, number, offset = slot.description, number_of(args[0]), number_of(args[3])
     length = number_of(args[2], 0) if block.call.name == "pread64" else room_of(args[1])
+    if result.error:
+        refused(world, block, process, slot, f"read {number} {max(1, length)}", offset, result)
+        return
     line = f"read {number} {length}", f"bytes {told_contents(description, told_bytes(world, args[1], result.number))}"
     if offset == AT_THE_OFFSET:
         world.step(block, process.seat, *line, description)
@@ -65,6 +83,9 @@ def say_pwrite(world: World, block: Block, process: Process, args: Arguments, re
     if slot is None:
         return
     description, thing, number, offset = slot.description, slot.description.thing, number_of(args[0]), number_of(args[3])
+    if result.error:
+        refused(world, block, process, slot, f"write {number} 00", offset, result)
+        return
     data = data_of(world, args[1], number_of(args[2], 0))[:result.value]
     is_moved = offset == AT_THE_OFFSET
     start = thing.size if description.append else description.offset if is_moved else offset
@@ -86,17 +107,58 @@ def say_ftruncate(world: World, block: Block, process: Process, args: Arguments,
     slot = memory_of(world, block, process, args[0], result)
     if slot is None:
         return
-    description, thing, number, length = slot.description, slot.description.thing, number_of(args[0]), number_of(args[1], 0)
-    if is_resize_sealed(thing, length):
+    length = number_of(args[1], 0)
+    if is_resize_sealed(slot.description.thing, length):
         world.doubts.add(doubts.SEALED, block)
-    if length == thing.size:
+    if length == slot.description.thing.size:
         block.leave_out("ftruncate to the length that the file has")
-    elif length < thing.size or description.append:
+    elif length < slot.description.thing.size:
         world.lose(block, slot.description, "ftruncate of a memory file to fewer bytes, which the layer has no call for")
+    else:
+        lengthen(world, block, process, number_of(args[0]), slot, length)
+
+
+def lengthen(world: World, block: Block, process: Process, number: int, slot: Slot, length: int) -> None:
+    """A memory file is longer from here on, by zeros."""
+    description, name = slot.description, block.call.name
+    if description.append:
+        world.lose(block, description, f"{name} of a memory file with O_APPEND, which the layer has no call for")
     elif not is_too_long(world, block, slot, length):
         at_offset(world, block, process, number, description, length - 1, [(f"write {number} 00", "n 1")])
-        thing.size = length
-        block.otherwise("ftruncate to more bytes as a write of the last one")
+        description.thing.size = length
+        block.otherwise(f"{name} to more bytes as a write of the last one")
+
+
+@says("fallocate")
+def say_fallocate(world: World, block: Block, process: Process, args: Arguments, result: Result) -> None:
+    """Of a memory file: to more bytes, or zeros in place of what was there (fallocate(2))."""
+    slot = memory_of(world, block, process, args[0], result)
+    if slot is None:
+        return
+    thing, number, flags = slot.description.thing, number_of(args[0]), flags_of(args[1])
+    start, end = number_of(args[2]), number_of(args[2]) + number_of(args[3])
+    if flags & ZEROING:
+        wipe(world, block, process, number, slot, (start, min(end, thing.size)))
+    elif flags - {"FALLOC_FL_KEEP_SIZE"}:
+        world.lose(block, slot.description, "fallocate of another kind, which the layer has no call for")
+    elif end > thing.size and not flags:
+        if is_resize_sealed(thing, end):
+            world.doubts.add(doubts.SEALED, block)
+        lengthen(world, block, process, number, slot, end)
+    else:
+        block.leave_out("fallocate of bytes that are there")
+
+
+def wipe(world: World, block: Block, process: Process, number: int, slot: Slot, span: tuple[int, int]) -> None:
+    """Zeros from one offset of a memory file to another."""
+    start, end = span
+    if slot.description.append:
+        world.lose(block, slot.description, "fallocate of a memory file with O_APPEND, which the layer has no call for")
+    elif start < end:
+        at_offset(world, block, process, number, slot.description, start, writes(number, bytes(end - start), end - start))
+        block.otherwise("fallocate as a write of zeros")
+    else:
+        block.leave_out("fallocate of no bytes that are there")
 
 
 @says("mmap", "mmap2")

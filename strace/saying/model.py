@@ -45,19 +45,21 @@ class Role(Enum):
 
 @dataclass(slots=True)
 class Message:
-    """A datagram or record that waits: the socket that sent it, and how many bytes it has."""
+    """A datagram or record that waits: the socket that sent it, how many bytes it has, and those that the layer has."""
     sender: Any
     size: int
+    data: bytes = b""
 
 
 @dataclass(slots=True, eq=False)
 class Description:
     """An open file description as the log shows it. `unknown` says why its later replies aren't compared;
     `unread` has the lengths of what was sent and not yet received, and `blurred` how many of these bytes, up to the last one that the
-    log doesn't show; `messages` has what waits to be received, but of a stream; `offset` is a memory file's; `held` and `flying` are how
+    log doesn't show; `messages` has what waits to be received, but of a stream, and `reached` the sockets that a datagram socket has sent
+    to; `offset` is a memory file's; `held` and `flying` are how
     many descriptors and rights on their way lead to it, `past` what marks.py keeps; `mode` is r, w or rw where that is known,
     `spelling` is the path that its bind gave, `buffers` has the sizes that SO_SNDBUF and SO_RCVBUF were set to, and `is_given` says that
-    its flags were set by what the log doesn't show."""
+    its flags were set by what the log doesn't show, `owner` who made a pair, or listens: process, user and group."""
     kind: Kind
     what: str
     nonblocking: bool = False
@@ -77,6 +79,7 @@ class Description:
     outer: Any = None
     pending: int = 0
     messages: list = field(default_factory=list)
+    reached: dict = field(default_factory=dict)
     blurred: int = 0
     offset: int = 0
     is_split: bool = False
@@ -88,11 +91,12 @@ class Description:
     buffers: dict = field(default_factory=dict)
     spelling: bytes | None = None
     is_given: bool = False
+    owner: tuple | None = None
 
     def state(self):
         """What differences.txt calls the kind of a descriptor."""
         if not self.kind.is_socket:
-            filled = "/filled" if self.kind is Kind.PIPE and self.thing is not None and self.thing.level >= PAGES_USED else ""
+            filled = "/filled" if self.kind is Kind.PIPE and self.thing is not None and self.thing.is_filled() else ""
             return self.kind.value + filled if self.kind is not Kind.OPAQUE else "mem"
         memory = sum(self.unread) + MESSAGE_COST * len(self.unread)
         is_filled = memory >= FILLED or "SO_SNDBUF" in self.buffers and memory > 0
@@ -109,8 +113,9 @@ MESSAGE_COST = 768
 @dataclass(slots=True, eq=False)
 class Thing:
     """A file object of the layer that a log makes at run time: its name if the header has it, and why its contents aren't known, if so.
-    `level` is how many bytes wait in a pipe, and `blurred` how many of these, up to the last one that the log doesn't show; `size` and
-    `seals` are a memory file's, and `is_hidden` says that the log doesn't show what was written to it."""
+    `level` is how many bytes wait in a pipe, and `blurred` how many of these, up to the last one that the log doesn't show, `room` its
+    size where that was told, and `is_resized` says that the program set it; `size` and `seals` are a memory file's, and `is_hidden` says
+    that the log doesn't show what was written to it."""
     name: str
     kind: Kind
     unknown: str = ""
@@ -121,6 +126,12 @@ class Thing:
     size: int = 0
     seals: int = 0
     is_hidden: bool = False
+    room: int = 0
+    is_resized: bool = False
+
+    def is_filled(self) -> bool:
+        """Whether a pipe's room on Linux may be used up."""
+        return self.level >= PAGES_USED or self.is_resized and self.level > 0
 
 
 @dataclass(slots=True)
@@ -216,6 +227,10 @@ class Process:
         while len(found) < count:
             found.append(self.lowest(found[-1] + 1 if found else 0))
         return found
+
+    def person(self):
+        """The process's number, and its effective user and group."""
+        return self.pid, self.users[1], self.groups[1]
 
     def label(self) -> str:
         return f"{self.program} (pid {self.pid})"

@@ -4,6 +4,7 @@ The log doesn't show the bytes. So as many are read as the call moved, and zeros
 compared by its length."""
 from __future__ import annotations
 
+from dataclasses import dataclass
 from typing import TYPE_CHECKING, Any
 
 from reading.words import Change, after, number_of
@@ -13,7 +14,7 @@ from .limits import may_write
 from .memory import at_offset, writes
 from .model import Kind
 from .receiving import Received, arrive
-from .sending import end_of_write, put
+from .sending import Put, end_of_write, put
 from .waiting import waiting_bytes
 from .world import says
 
@@ -53,8 +54,9 @@ def say_move(world: World, block: Block, process: Process, args: Arguments, resu
     elif result.error or result.value is None:
         refused(world, block, process, source, target, result)
     else:
-        take(world, block, process, source, offset_of(args, source_at), number_of(args[length], 0), result, name == "tee")
-        give(world, block, process, target, offset_of(args, target_at), bytes(result.number), result)
+        side = Side(source, offset_of(args, source_at), number_of(args[length], 0), name == "tee")
+        take(world, block, process, side, result)
+        give(world, block, process, Side(target, offset_of(args, target_at)), bytes(result.number), result)
         block.otherwise(SAID)
 
 
@@ -62,7 +64,7 @@ def refused(world: World, block: Block, process: Process, source: Any, target: A
     """A move that failed is said where one side alone can be what failed."""
     name = block.call.name
     if result.error == "EPIPE" and is_of_the_layer(process, target):
-        give(world, block, process, target, None, b"\0", result)
+        give(world, block, process, Side(target), b"\0", result)
     elif result.error in OF_A_SOURCE and not is_of_the_layer(process, target):
         slot = sayable(world, block, process, source, name)
         if slot is not None:
@@ -71,35 +73,45 @@ def refused(world: World, block: Block, process: Process, source: Any, target: A
         block.leave_out(f"{name} that failed")
 
 
-def take(world: World, block: Block, process: Process, value: Any, offset: int | None, length: int, result: Result, keeps: bool) -> None:
+@dataclass
+class Side:
+    """One side of a move: its descriptor, the offset that it was given, None where it is the descriptor's own; of a source how much was
+    asked for, and whether it keeps it."""
+    value: Any
+    offset: int | None = None
+    length: int = 0
+    keeps: bool = False
+
+
+def take(world: World, block: Block, process: Process, side: Side, result: Result) -> None:
     """What a move took of its source; tee(2) leaves it there."""
-    if not is_of_the_layer(process, value):
+    if not is_of_the_layer(process, side.value):
         return
-    slot = sayable(world, block, process, value, block.call.name)
+    slot = sayable(world, block, process, side.value, block.call.name)
     if slot is None:
         return
-    description, number, count = slot.description, number_of(value), result.number
-    line = f"read {number} {count or length}", f"bytes *{count}"
-    if keeps:
+    description, number, count = slot.description, number_of(side.value), result.number
+    line = f"read {number} {count or side.length}", f"bytes *{count}"
+    if side.keeps:
         if count > waiting_bytes(description):
             world.doubts.add(doubts.COUNT, block)
-    elif offset is not None and description.kind is Kind.MEMORY:
-        at_offset(world, block, process, number, description, offset, [line])
+    elif side.offset is not None and description.kind is Kind.MEMORY:
+        at_offset(world, block, process, number, description, side.offset, [line])
     else:
-        arrive(world, block, Received(number, slot, length, result, bytes(count)))
+        arrive(world, block, Received(number, slot, side.length, result, bytes(count)))
         world.step(block, process.seat, *line, description)
-        if length > 0:
+        if side.length > 0:
             taken(description, count)
 
 
-def give(world: World, block: Block, process: Process, value: Any, offset: int | None, data: bytes, result: Result) -> None:
+def give(world: World, block: Block, process: Process, side: Side, data: bytes, result: Result) -> None:
     """What a move gave its target."""
-    if not is_of_the_layer(process, value) or not result.error and not data:
+    if not is_of_the_layer(process, side.value) or not result.error and not data:
         return
-    slot = sayable(world, block, process, value, block.call.name)
+    slot = sayable(world, block, process, side.value, block.call.name)
     if slot is None:
         return
-    description, number = slot.description, number_of(value)
+    description, number, offset = slot.description, number_of(side.value), side.offset
     if description.kind in (Kind.DATAGRAM, Kind.RECORDS):
         world.lose(block, description, f"{block.call.name} to a socket of messages: the log doesn't show how many")
         return
@@ -109,7 +121,7 @@ def give(world: World, block: Block, process: Process, value: Any, offset: int |
         description.thing.size = max(description.thing.size, offset + len(data))
         at_offset(world, block, process, number, description, offset, writes(number, data, len(data)))
     else:
-        put(world, block, process, number, description, data, result, lambda piece: f"write {number} {piece}")
+        put(world, block, process, Put(description, data, result, lambda piece: f"write {number} {piece}"))
     if not result.error:
         blur(description)
 
@@ -125,10 +137,10 @@ def say_vmsplice(world: World, block: Block, process: Process, args: Arguments, 
     if slot is None or result.error or result.value is None:
         block.leave_out("vmsplice that failed, or of what isn't a pipe")
     elif slot.description.mode == "r":
-        take(world, block, process, args[0], None, result.value, result, False)
+        take(world, block, process, Side(args[0], length=result.value), result)
         block.otherwise("vmsplice as a read")
     else:
         number = number_of(args[0])
         data = data_of(world, after(args[1]))[:result.value]
-        put(world, block, process, number, slot.description, data, result, lambda piece: f"write {number} {piece}")
+        put(world, block, process, Put(slot.description, data, result, lambda piece: f"write {number} {piece}"))
         block.otherwise("vmsplice as a write")

@@ -7,7 +7,7 @@ from typing import TYPE_CHECKING, Any
 
 from reading.calls import Result
 from reading.words import after, fields_of, flags_of, list_of, number_of, room_of
-from . import doubts
+from . import doubts, marks
 from .contents import PIECE, sayable, shortened, taken, told_bytes, told_contents
 from .descriptors import FORGETS, make_pidfd, note_of
 from .model import WHOLE, Description, Kind, Slot
@@ -56,10 +56,14 @@ def say_read(world: World, block: Block, process: Process, args: Arguments, resu
     if many:
         block.otherwise("readv as read")
     told, data = f"err {result.error}", b""
+    if length == 0 and result.value == 0 and description.kind in (Kind.DATAGRAM, Kind.RECORDS):
+        block.leave_out(f"{block.call.name} of no bytes, which looks at nothing")
+        return
     if not result.error:
         whole = told_bytes(world, args[1], result.number)
         arrive(world, block, Received(number, slot, length, result, whole))
         data = shortened(description, whole)
+        marks.compare(description, data, length, world.gaps.cut_texts > 0)
         told = f"bytes {told_contents(description, data)}"
     world.step(block, process.seat, f"read {number} {min(length, FORGETS)}", told, description)
     if length > 0 and not result.error:
@@ -125,33 +129,37 @@ def say_recvmsg(world: World, block: Block, process: Process, args: Arguments, r
         return
     if outside(block, result):
         return
-    receive_message(world, block, process, number_of(args[0]), slot, after(args[1]), flags_of(args[2]), result)
+    receive_message(world, block, process, Received(number_of(args[0]), slot, WHOLE, result, flags=flags_of(args[2])), after(args[1]))
 
 
-def receive_message(world: World, block: Block, process: Process, number: int, slot: Slot, message: Any, flags: set[str],
-                    result: Result) -> None:
+def receive_message(world: World, block: Block, process: Process, one: Received, message: Any) -> None:
     """One message, whose space for control data is guessed from what came: strace shows what is left of it alone."""
-    if result.error:
+    if one.result.error:
         # strace shows no buffers then, and what a receive asks for doesn't count where it gets nothing.
-        receive(world, block, process, Received(number, slot, WHOLE, result, flags=flags))
+        receive(world, block, process, one)
         return
     if not isinstance(message, dict):
-        world.lose(block, slot.description, "a message that the log doesn't show")
+        world.lose(block, one.slot.description, "a message that the log doesn't show")
         return
-    told = flags_of(message.get("msg_flags"))
-    items, numbers, notes = items_of(world, message.get("msg_control"))
     before, behind = pidfds_of(message.get("msg_control"))
     make_pidfds(world, block, process, before)
-    space = ENOUGH_SPACE
-    if "MSG_CTRUNC" in told:
-        space = (CREDENTIALS_SPACE if "c:" in items else 0) + (LEAST_SPACE + 4 * len(numbers) if numbers else 0)
-    words = "|".join(word for flag, word in REPLY_FLAGS if flag in told) or "-"
-    sender = sender_of(world, process, sender_at(slot.description), message.get("msg_name"), message.get("msg_namelen"))
-    length = room_of(message.get("msg_iov"))
-    data = received(world, message.get("msg_iov"), length, flags, result)
-    came = list(zip(numbers, notes))
-    receive(world, block, process, Received(number, slot, length, result, data, flags, space, words, items, sender, came))
+    take_header(world, process, one, message)
+    receive(world, block, process, one)
     make_pidfds(world, block, process, behind)
+
+
+def take_header(world: World, process: Process, one: Received, message: dict[str, Any]) -> None:
+    """What a msghdr tells of a message that came."""
+    told = flags_of(message.get("msg_flags"))
+    one.items, numbers, notes = items_of(world, message.get("msg_control"))
+    one.came = list(zip(numbers, notes))
+    one.space = ENOUGH_SPACE
+    if "MSG_CTRUNC" in told:
+        one.space = (CREDENTIALS_SPACE if "c:" in one.items else 0) + (LEAST_SPACE + 4 * len(numbers) if numbers else 0)
+    one.told = "|".join(word for flag, word in REPLY_FLAGS if flag in told) or "-"
+    one.sender = sender_of(world, process, sender_at(one.slot.description), message.get("msg_name"), message.get("msg_namelen"))
+    one.length = room_of(message.get("msg_iov"))
+    one.data = received(world, message.get("msg_iov"), one.length, one.flags, one.result)
 
 
 def put_down(world: World, block: Block, process: Process, message: Any, flags: set[str], result: Result) -> None:
@@ -228,6 +236,7 @@ def take_message(world: World, block: Block, process: Process, one: Received, le
     if came and description.peer is not None and description.peer.is_split and len(data) > PIECE and "p" not in letters:
         data, rest, length = data[:PIECE], data[PIECE:], PIECE
     count = one.result.value if "MSG_TRUNC" in one.flags and not rest else len(data)
+    marks.compare(description, data, one.length, world.gaps.cut_texts > 0)
     world.step(block, process.seat, f"recv {one.number} {length} {one.space} {letters}",
                f"got {count} {told_contents(description, data)} {one.told} {items} {one.sender}", description, other=sender_at(description))
     if rest:
@@ -293,7 +302,11 @@ def say_recvmmsg(world: World, block: Block, process: Process, args: Arguments, 
     if result.error:
         receive(world, block, process, Received(number_of(args[0]), slot, WHOLE, result, flags=flags))
         return
-    for one in map(fields_of, list_of(args[1])[:result.value]):
+    messages = list_of(args[1])
+    if result.number > len(messages):
+        world.doubts.add(doubts.COUNT, block)
+    for one in map(fields_of, messages[:result.value]):
         length = number_of(one.get("msg_len"), 0)
-        receive_message(world, block, process, number_of(args[0]), slot, one.get("msg_hdr", one), flags, type(result)(length))
+        taking = Received(number_of(args[0]), slot, WHOLE, type(result)(length), flags=flags)
+        receive_message(world, block, process, taking, one.get("msg_hdr", one))
     block.otherwise("recvmmsg as several receives")

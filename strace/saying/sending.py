@@ -6,6 +6,7 @@ from typing import TYPE_CHECKING, Any, Callable
 
 from reading.calls import Result
 from reading.words import after, fields_of, flags_of, list_of, number_of
+from . import doubts
 from .contents import PIECE, data_of, hexadecimal, sayable
 from .descriptors import FORGETS, note_of
 from .limits import may_write
@@ -32,7 +33,7 @@ def say_write(world: World, block: Block, process: Process, args: Arguments, res
         block.otherwise("writev as write")
     if slot.description.kind is Kind.MEMORY and not may_write(world, block, slot, end_of_write(slot.description, len(data)), result):
         return
-    put(world, block, process, number_of(args[0]), slot.description, data, result, lambda piece: f"write {number_of(args[0])} {piece}")
+    put(world, block, process, Put(slot.description, data, result, lambda piece: f"write {number_of(args[0])} {piece}"))
 
 
 def end_of_write(description: Description, count: int):
@@ -48,22 +49,35 @@ def fits(description: Description, count: int) -> bool:
     return unread + count <= WHOLE
 
 
-def put(world: World, block: Block, process: Process, number: int, description: Description, data: bytes, result: Result,
-        words_of: Callable[[str], str], target: Description | None = None) -> bool:
+@dataclass
+class Put:
+    """What one call puts into a socket, a pipe, a counter or a memory file: its bytes, what it answered, the words of a piece, and the
+    socket that an address leads to."""
+    description: Description
+    data: bytes
+    result: Result
+    words_of: Callable[[str], str]
+    target: Description | None = None
+
+
+def put(world: World, block: Block, process: Process, one: Put) -> bool:
     """Sends bytes, in pieces where the layer hasn't room for all; the answer is whether it did so."""
-    if result.error:
-        if result.error == "EPIPE" and description.outer is not None:
+    description, data = one.description, one.data
+    if one.result.error:
+        if one.result.error == "EPIPE" and description.outer is not None:
             world.outside.close(block, description.outer)
-        world.step(block, process.seat, words_of(hexadecimal(data[:WHOLE])), f"err {result.error}", description, other=target)
+        words = one.words_of(hexadecimal(data[:WHOLE]))
+        world.step(block, process.seat, words, f"err {one.result.error}", description, other=one.target)
         return False
-    data = data[:result.value] if description.kind is Kind.STREAM or not description.kind.is_socket else data
-    told = result.number
+    told = one.result.number
+    if data and not told:
+        world.doubts.add(doubts.ANSWER, block)
+    data = data[:told] if description.kind is Kind.STREAM or not description.kind.is_socket else data
     if description.kind in (Kind.DATAGRAM, Kind.RECORDS) and len(data) > WHOLE:
         told -= len(data) - WHOLE
         data = data[:WHOLE]
         block.otherwise("a message shortened: longer than the layer takes")
-    size = WHOLE if fits(description, len(data)) else PIECE
-    pieces = [data[at:at + size] for at in range(0, len(data), size)] or [b""]
+    pieces = pieces_of(description, data)
     if len(pieces) > 1:
         block.otherwise("in pieces: no room for all at once")
     parts = world.parts(block, len(pieces)) if block.call.begin < block.call.end else [block] * len(pieces)
@@ -71,16 +85,29 @@ def put(world: World, block: Block, process: Process, number: int, description: 
     counts = [len(piece) for piece in pieces]
     counts[-1] += told - sum(counts)
     for place, (piece, count, part) in enumerate(zip(pieces, counts, parts)):
-        world.step(part, process.seat, words_of(hexadecimal(piece)), f"n {count}", description, other=target)
+        world.step(part, process.seat, one.words_of(hexadecimal(piece)), f"n {count}", description, other=one.target)
         fill(description, len(piece), place > 0)
-    reached = target or description.peer
-    if reached is not None:
-        reached.pending += 1
-        if description.kind is not Kind.STREAM:
-            reached.messages.append(Message(description, result.number))
+    arrives(description, one.target or description.peer, Message(description, one.result.number, data))
     if description.outer is not None:
         world.outside.drain(block, description.outer, len(pieces))
     return len(pieces) > 1
+
+
+def pieces_of(description: Description, data: bytes) -> list[bytes]:
+    """Bytes as many at a time as find room; no bytes are one piece too."""
+    size = WHOLE if fits(description, len(data)) else PIECE
+    return [data[at:at + size] for at in range(0, len(data), size)] or [b""]
+
+
+def arrives(description: Description, reached: Description | None, message: Message) -> None:
+    """Keeps what waits from now on at the socket that a message goes to."""
+    if reached is None:
+        return
+    reached.pending += 1
+    if description.kind is not Kind.STREAM:
+        reached.messages.append(message)
+    if description.kind is Kind.DATAGRAM:
+        description.reached[id(reached)] = reached
 
 
 def fill(description: Description, count: int, goes_on: bool) -> None:
@@ -178,7 +205,7 @@ def send(world: World, block: Block, process: Process, one: Sent) -> None:
     def words_of(piece: str) -> str:
         return f"send {one.number} {word} {piece} {first.pop() if first else '-'} {letters}"
     target = world.names.bound.get(word)
-    in_pieces = put(world, block, process, one.number, slot.description, one.data, result, words_of, target)
+    in_pieces = put(world, block, process, Put(slot.description, one.data, result, words_of, target))
     if not result.error and target is not None and target.outer is not None:
         world.outside.drain(block, target.outer, 1)
     if not result.error:
@@ -201,16 +228,17 @@ def say_sendmsg(world: World, block: Block, process: Process, args: Arguments, r
     slot = sayable(world, block, process, args[0], "sendmsg")
     if slot is None or outside(block, result):
         return
-    send_message(world, block, process, number_of(args[0]), slot, after(args[1]), flags_of(args[2]), result)
+    send_message(world, block, process, Sent(number_of(args[0]), slot, b"", result, flags_of(args[2])), after(args[1]))
 
 
-def send_message(world: World, block: Block, process: Process, number: int, slot: Slot, message: Any, flags: set[str],
-                 result: Result) -> None:
+def send_message(world: World, block: Block, process: Process, one: Sent, message: Any) -> None:
+    """A send of what a msghdr has."""
     if not isinstance(message, dict):
-        world.lose(block, slot.description, "a message that the log doesn't show")
+        world.lose(block, one.slot.description, "a message that the log doesn't show")
         return
-    data = data_of(world, message.get("msg_iov"))
-    send(world, block, process, Sent(number, slot, data, result, flags, message.get("msg_name"), message.get("msg_control")))
+    one.data = data_of(world, message.get("msg_iov"))
+    one.where, one.items = message.get("msg_name"), message.get("msg_control")
+    send(world, block, process, one)
 
 
 @says("sendmmsg")
@@ -219,11 +247,13 @@ def say_sendmmsg(world: World, block: Block, process: Process, args: Arguments, 
     if slot is None or outside(block, result):
         return
     messages = list_of(args[1])
+    if not result.error and result.number > len(messages):
+        world.doubts.add(doubts.COUNT, block)
     for one in map(fields_of, messages if result.error else messages[:result.value]):
         message = one.get("msg_hdr", one)
         length = number_of(one.get("msg_len"), 0)
         answer = result if result.error else type(result)(length)
-        send_message(world, block, process, number_of(args[0]), slot, message, flags_of(args[3]), answer)
+        send_message(world, block, process, Sent(number_of(args[0]), slot, b"", answer, flags_of(args[3])), message)
         if result.error:
             break
     block.otherwise("sendmmsg as several sends")

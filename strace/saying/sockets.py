@@ -5,6 +5,7 @@ from typing import TYPE_CHECKING, Any, Sequence
 
 from reading.effects import OUTSIDE_ERRORS
 from reading.words import Change, Descriptor, Text, after, fields_of, flags_of, number_of
+from . import doubts
 from .amounts import BUFFERS, say_buffer
 from .descriptors import make_pidfd, note_of, on_unix
 from .marks import inherit
@@ -146,6 +147,7 @@ def say_pair(world: World, block: Block, process: Process, args: Arguments, resu
     first, second = (new_socket(world, kind, flags, note_of(end)) for end in ends)
     first.peer, second.peer = second, first
     first.phase = second.phase = "tied"
+    first.owner = second.owner = process.person()
     first.what = second.what = "an end of a socketpair"
     make_two(world, block, process, f"pair {kind.value}", (first, second), [number_of(end) for end in ends], "SOCK_CLOEXEC" in flags)
 
@@ -248,6 +250,7 @@ def say_listen(world: World, block: Block, process: Process, args: Arguments, re
                f"err {result.error}" if result.error else "ok", slot.description)
     if not result.error:
         slot.description.phase, slot.description.listens = "listening", True
+        slot.description.owner = process.person()
         slot.description.what = "a listening socket"
 
 
@@ -407,12 +410,24 @@ def say_getsockopt(world: World, block: Block, process: Process, args: Arguments
     elif option == "peercred":
         value = fields_of(value)
         told = f"cred {world.people.word_of(value.get('pid'))} {value.get('uid')} {value.get('gid')}"
+        if not may_be_peer(world, slot.description, value):
+            world.doubts.add(doubts.CREDENTIALS, block)
         if slot.description.outer is not None:
             world.outside.learnt.people[slot.description.outer.ordinal] = (value.get("uid"), value.get("gid"))
     else:
         answer = value[0] if isinstance(value, list) and value else value
         told = f"opt {NUMBERS.get(str(answer), answer)}"
     world.step(block, process.seat, f"getopt {number_of(args[0])} {option}", told, slot.description)
+
+
+def may_be_peer(world: World, description: Description, value: dict[str, Any]) -> bool:
+    """Whether SO_PEERCRED may tell these of a socket without a peer: who made the pair, or listens, or nobody (unix(7)). A process that
+    the log doesn't have may be any."""
+    if description.kind is not Kind.DATAGRAM and description.phase == "tied":
+        return True
+    process, *ids = description.owner or (0, -1, -1)
+    told = value.get("pid")
+    return [value.get("uid"), value.get("gid")] == ids and (told == process or told != 0 and told not in world.people.by_pid)
 
 
 @says("setsockopt")

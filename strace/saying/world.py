@@ -34,6 +34,15 @@ OPAQUE_NAMES = {"timerfd_create": "a timer", "signalfd4": "a descriptor of signa
                 "inotify_init1": "an inotify", "inotify_init": "an inotify", "io_uring_setup": "an io_uring",
                 "userfaultfd": "a userfaultfd", "epoll_create1": "an epoll", "epoll_create": "an epoll",
                 "pidfd_open": "a process's descriptor"}
+# Calls whose first argument is a descriptor, but close.
+ON_A_DESCRIPTOR = frozenset("""read readv pread64 preadv preadv2 write writev pwrite64 pwritev pwritev2 recv recvfrom recvmsg recvmmsg send
+sendto sendmsg sendmmsg bind listen connect accept accept4 shutdown getsockname getpeername getsockopt setsockopt dup dup2 dup3 fcntl
+fcntl64 ioctl lseek ftruncate ftruncate64 fallocate splice tee vmsplice copy_file_range sendfile sendfile64 epoll_ctl epoll_wait epoll_pwait
+epoll_pwait2 fchdir""".split())
+# Calls that answer 0 where they go well.
+ANSWERS_NOTHING = frozenset("""close close_range bind listen connect shutdown getsockname getpeername getsockopt setsockopt socketpair pipe
+pipe2 ftruncate ftruncate64 fallocate unlink unlinkat rename renameat renameat2 link linkat chdir fchdir chroot epoll_ctl execve
+execveat setuid setgid setreuid setregid setresuid setresgid setgroups""".split())
 # Calls that give numbers, or take them, or tell who the process is.
 OF_THE_TABLE = frozenset("""socket pair pipe open create memfd eventfd accept dup dup2 dupfd close fork exec exit setids""".split())
 Handler = Callable[..., None]
@@ -176,7 +185,7 @@ class World:
             block.concern(other)
             step.other, step.other_name = marks.marks_of(other, description), other.name
         if description is not None and description.kind.is_socket:
-            step.marks = marks.marks_of(description)
+            step.marks, step.other = marks.marks_of_call(description, other, words, bool(self.objects.in_flight))
             if expect is not None:
                 marks.follow(description, other, words, expect)
         if seat is not None:
@@ -251,12 +260,20 @@ class World:
 
     # ---- one call ----
 
+    def has_no_parent(self, thread: int) -> bool:
+        """Whether a thread that isn't known yet is of a process that nothing made, though the log has all from the first on."""
+        return (self.log.head.recorded and thread not in self.people.threads and bool(self.people.processes)
+                and not self.people.orphans)
+
     def say(self, call: Call, at: float) -> None:
+        is_stray = self.has_no_parent(call.thread)
         process = self.process_of(call.thread)
         if process.birth is not None and process.birth.end >= call.begin:
             process.birth.end = max(process.birth.begin, call.begin - 0.5)
         block = Block(call, process, call.begin, call.end, at, program=process.label())
         self.current = block
+        if is_stray:
+            self.doubts.add(doubts.NO_PARENT, block)
         try:
             args, result = call.read()
         except (Unreadable, ValueError, RecursionError) as fault:
@@ -279,6 +296,7 @@ class World:
         call = block.call
         handler = SAYS.get(call.name)
         try:
+            self.note_answer(block, process, args, result)
             self.uses.note(process, call, args)
             if handler:
                 handler(self, block, process, args, result)
@@ -289,6 +307,16 @@ class World:
             self.log.bad.append((call.begin, f"{call.name}: arguments of another form ({fault})"))
         except Exception as fault:
             raise Defect(f"line {call.begin}, {call.name}: {type(fault).__name__}: {fault}") from fault
+
+    def note_answer(self, block: Block, process: Process, args: Arguments, result: Result) -> None:
+        """A call that went well on a number which leads to nothing, of which strace has no note either; or that answers 0 alone."""
+        name, number = block.call.name, args[0] if args else None
+        if result.error or result.value is None:
+            return
+        if name in ON_A_DESCRIPTOR and isinstance(number, int) and 0 <= number <= HIGHEST and number not in process.table:
+            self.doubts.add(doubts.NO_ORIGIN, block)
+        if name in ANSWERS_NOTHING and result.value:
+            self.doubts.add(doubts.ANSWER, block)
 
     def say_other(self, block: Block, process: Process, args: Arguments, result: Result) -> None:
         """A call that nobody has told what to do with."""

@@ -18,9 +18,9 @@ LOG = """7 100.0 socket(AF_UNIX, SOCK_STREAM, 0) = 3<UNIX-STREAM:[5]> <0.010000>
 """
 
 
-def log():
+def log(text: str = LOG):
     with tempfile.NamedTemporaryFile("w", suffix=".log") as file:
-        file.write(LOG)
+        file.write(text)
         file.flush()
         return read_log(file.name)
 
@@ -32,7 +32,15 @@ def sample(begin: float, end: float, **tables: dict[int, str]):
 class Moments(unittest.TestCase):
     def test_a_call_that_waits_is_busy_at_its_end_alone(self):
         spans = [(round(begin, 3), round(end, 3)) for begin, end in busy_times(log())]
-        self.assertEqual(spans, [(100.0, 100.01), (101.0, 101.1), (102.0, 102.0)])
+        self.assertEqual(spans, [(100.0, 100.11), (101.0, 101.1), (102.0, 102.0)])
+
+    def test_a_call_may_be_made_up_to_its_threads_next_line(self):
+        """strace notes the time before it lets a call begin: how long that takes isn't in how long the call took."""
+        lines = ('7 100.0 openat(AT_FDCWD</>, "/a", O_RDONLY) = 3</a> <0.000050>', "7 100.2 getpid() = 7 <0.000010>",
+                 '7 101.0 read(3</a>, ""..., 9) = 9 <1.000000>', "7 104.0 close(3</a>) = 0 <0.000010>")
+        found = [line for line, _ in quiet_moments(log("\n".join(lines) + "\n"), [sample(begin, begin + 0.01) for begin in
+                                                                                  (100.1, 100.5, 101.5, 103.0, 105.0)], 10)]
+        self.assertEqual(found, [1, 3, 4])
 
     def test_samples_beside_a_call_are_not_quiet(self):
         samples = [sample(100.005, 100.2), sample(100.6, 100.7), sample(101.05, 101.06), sample(101.2, 102.5), sample(103.0, 103.1)]

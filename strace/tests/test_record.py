@@ -16,7 +16,7 @@ from here import TOP
 from checking.samples import traced_by
 from reading.calls import read_log
 
-LONGEST = 30
+LONGEST = 120
 
 
 def wait_for(condition: Callable[[], bool]):

@@ -1,4 +1,4 @@
-"""Rules of logs: each of those that depend on what came before has a log in which it holds, and one in which it must not.
+"""Rules of logs: each has a log in which it holds, and one in which it must not.
 
 These need uxrun, as test_replay.py says."""
 from __future__ import annotations
@@ -6,7 +6,7 @@ from __future__ import annotations
 import unittest
 
 import here  # noqa: F401
-from test_replay import HEAD, UXRUN, replayed
+from test_replay import HEAD, RULES, UXRUN, replayed
 
 PASSCRED = "setsockopt({}, SOL_SOCKET, SO_PASSCRED, [1], 4) = 0"
 PIPE = "pipe([0, 1]) = 0"
@@ -45,6 +45,11 @@ def sockname(number: int, name: str | None):
     return f"getsockname({number}, {{sa_family=AF_UNIX{path}}}, [110 => 9]) = 0"
 
 
+def refused(call: str, error: str):
+    """A call with an error for its answer."""
+    return f"{call.rpartition(' = ')[0]} = -1 {error} (Why)"
+
+
 def receive(number: int, text: str):
     return f'recvfrom({number}, "{text}", 99, 0, NULL, NULL) = {len(text)}'
 
@@ -70,8 +75,10 @@ CASES = [
      [[*socket("DGRAM", 1, '@"x"'), sockname(1, None)]]),
     ("autobind-number", [*socket("DGRAM", 0), "bind(0, {sa_family=AF_UNIX}, 2) = 0"], [sockname(0, '@"0000b"')],
      [[*socket("DGRAM", 1, '@"0000c"'), sockname(1, '@"0000d"')]]),
-    ("read-of-no-bytes", [pair("DGRAM"), 'write(0, "a", 1) = 1', 'write(0, "b", 1) = 1', 'read(1, "", 0) = 0'], ['read(1, "a", 9) = 1'],
-     [[pair("DGRAM", 2), 'write(2, "good", 4) = 4', 'read(3, "evil", 9) = 4']]),
+    # Of what was sent since the queue was dropped each byte is compared.
+    ("association-drops-the-queue", DROPPED, [TO_Z, receive(0, "new")],
+     [[TO_Z, receive(0, "evil")], [TO_Z, receive(0, "ne")], [receive(0, "evil")], [TO_Z, 'read(0, "nea", 99) = 3']]),
+    ("read-of-no-bytes", socket("STREAM", 0), ['read(0, "", 0) = 0'], [[pair("STREAM", 1), "read(1, 0x7ffc, 0) = -1 ENOTCONN (Why)"]]),
     ("credentials-of-nothing", [pair("STREAM"), PASSCRED.format(1), "close(0) = 0"], [message("recvmsg", 1, "", NOBODY)],
      [["socketpair(AF_UNIX, SOCK_STREAM, 0, [0, 2]) = 0", "close(0) = 0", message("recvmsg", 2, "", NOBODY)]]),
     ("credentials-asked-for-later", [pair("STREAM"), 'write(0, "a", 1) = 1', PASSCRED.format(1)], [message("recvmsg", 1, "a", NOBODY)],
@@ -115,8 +122,49 @@ CASES = [
      ["close(1) = 0", 'read(0, 0x7ffc, 9) = -1 ECONNRESET (Connection reset by peer)'],
      [['read(0, 0x7ffc, 9) = -1 ECONNRESET (Connection reset by peer)']]),
     ("backlog", [*socket("STREAM", 0, '"/s"'), "listen(0, 1) = 0", *socket("STREAM", 1), *socket("STREAM", 2), connect(1, '"/s"')],
-     [connect(2, '"/s"')], []),
-    ("bind-again", socket("DGRAM", 0, '"/s"'), ["bind(0, {sa_family=AF_UNIX}, 2) = 0"], []),
+     [connect(2, '"/s"')], [["accept(0, NULL, NULL) = 3", refused(connect(2, '"/s"'), "EAGAIN")]]),
+    ("bind-again", socket("DGRAM", 0, '"/s"'), ["bind(0, {sa_family=AF_UNIX}, 2) = 0"],
+     [['bind(0, {sa_family=AF_UNIX, sun_path="/t"}, 5) = 0']]),
+    ("order-of-bind", [*socket("DGRAM", 0, '"/s"'), *socket("DGRAM", 1, '"/t"')],
+     [refused('bind(0, {sa_family=AF_UNIX, sun_path="/t"}, 5) = 0', "EADDRINUSE")],
+     [[refused('bind(0, {sa_family=AF_UNIX, sun_path=@"t"}, 4) = 0', "EADDRINUSE")]]),
+    ("unnamed-sender", [pair("DGRAM"), 'write(0, "a", 1) = 1'], ['recvfrom(1, "a", 9, 0, 0x7ffc, [110 => 0]) = 1'],
+     [[*socket("DGRAM", 2, '"/c"'), *socket("DGRAM", 3, '"/d"'), TO_D.format(2), 'recvfrom(3, "a", 9, 0, 0x7ffc, [110 => 0]) = 1']]),
+    ("listen-without-a-name", socket("STREAM", 0), [refused("listen(0, 5) = 0", "EINVAL")],
+     [[*socket("STREAM", 1, '"/s"'), refused("listen(1, 5) = 0", "EINVAL")]]),
+    ("order-of-connect", [pair("STREAM")], [refused(connect(0, '"/none"'), "ENOENT"), refused(connect(0, '"/none"'), "ECONNREFUSED")],
+     [[*socket("STREAM", 2, '"/s"'), "listen(2, 5) = 0", refused(connect(0, '"/s"'), error)] for error in
+      ("ENOENT", "ECONNREFUSED", "EPROTOTYPE", "EAGAIN")]),
+    ("order-of-connect", [pair("STREAM"), *socket("DGRAM", 2, '"/d"'), *socket("STREAM", 3, '"/s"')],
+     [refused(connect(0, '"/d"'), "EPROTOTYPE"), refused(connect(0, '"/s"'), "ECONNREFUSED")],
+     [[refused(connect(0, '"/s"'), "EPROTOTYPE")], [refused(connect(0, '"/d"'), "EAGAIN")]]),
+    ("open-of-a-socket", socket("STREAM", 0, '"/s"'), ['open("/s", O_RDONLY) = -1 ENXIO (No such device or address)'],
+     [['open("/f", O_RDWR|O_CREAT|O_EXCL, 0600) = 1', 'open("/f", O_RDONLY) = -1 ENXIO (No such device or address)']]),
+    ("shutdown-of-an-idle-socket", socket("STREAM", 0), ["shutdown(0, SHUT_RD) = 0"],
+     [[pair("STREAM", 1), refused("shutdown(1, SHUT_RD) = 0", "ENOTCONN")]]),
+    ("peer-without-credentials", socket("STREAM", 0), ["getsockopt(0, SOL_SOCKET, SO_PEERCRED, {pid=0, uid=-1, gid=-1}, [12]) = 0"],
+     [[pair("STREAM", 1), "getsockopt(1, SOL_SOCKET, SO_PEERCRED, {pid=0, uid=-1, gid=-1}, [12]) = 0"]]),
+    ("poll-of-an-idle-socket", socket("STREAM", 0), [poll(0, "OUT HUP")], [[pair("STREAM", 1), poll(1, "OUT HUP")]]),
+    ("destination-required", socket("DGRAM", 0), [refused('write(0, "a", 1) = 1', "ENOTCONN")],
+     [[pair("DGRAM", 1), refused('write(1, "a", 1) = 1', "ENOTCONN")]]),
+    ("receive-of-an-unconnected-stream", socket("STREAM", 0), ["read(0, 0x7ffc, 9) = -1 EINVAL (Invalid argument)"],
+     [[pair("STREAM", 1), "read(1, 0x7ffc, 9) = -1 EINVAL (Invalid argument)"]]),
+    ("datagram-socket-shut-for-reading", [pair("DGRAM"), "shutdown(0, SHUT_RD) = 0"], [WAITED.format(0)],
+     [[pair("DGRAM", 2), 'write(2, "a", 1) = 1', WAITED.format(3)]]),
+    ("limit-of-rights-in-flight", [pair("STREAM"), message("sendmsg", 0, "a", RIGHT % 0, room=1)],
+     [refused(message("sendmsg", 0, "a", RIGHT % 0, room=1), "ETOOMANYREFS")],
+     [[message("recvmsg", 1, "a", RIGHT % 2), refused(message("sendmsg", 0, "a", RIGHT % 0, room=1), "ETOOMANYREFS")]]),
+    ("rights-without-data", [pair("STREAM")], [message("sendmsg", 0, "", RIGHT % 0, room=0)],
+     [[refused(message("sendmsg", 0, "a", RIGHT % 0, room=1), "EINVAL")]]),
+    ("order-of-send", [pair("STREAM")], [refused('sendto(0, "a", 1, 0, {sa_family=AF_UNIX, sun_path="/none"}, 8) = 1', "EPIPE")],
+     [[refused('write(0, "a", 1) = 1', "EISCONN")]]),
+    ("address-at-a-seqpacket-socket", [pair("SEQPACKET")], ['sendto(0, "a", 1, 0, {sa_family=AF_UNIX, sun_path="/d"}, 5) = 1'],
+     [[pair("STREAM", 2), 'sendto(2, "a", 1, 0, {sa_family=AF_UNIX, sun_path="/d"}, 5) = 1']]),
+    ("receive-of-nothing", [pair("STREAM")], ["recvfrom(1, 0x7ffc, 0, MSG_DONTWAIT, NULL, NULL) = -1 EAGAIN (Try again)"],
+     [['write(0, "a", 1) = 1', "recvfrom(1, 0x7ffc, 0, MSG_DONTWAIT, NULL, NULL) = -1 EAGAIN (Try again)"]]),
+    ("offset-of-a-counter", ["eventfd2(0, 0) = 0"], ["lseek(0, 0, SEEK_SET) = 0"], [["lseek(0, 5, SEEK_SET) = 5"]]),
+    ("long-write-of-a-counter", ["eventfd2(0, 0) = 0"], [refused('write(0, "aaaaaaaaa", 9) = 9', "EINVAL")],
+     [[refused('write(0, "\\1\\0\\0\\0\\0\\0\\0\\0", 8) = 8', "EINVAL")]]),
     # Until they are received, and of the one socket that they wait at.
     ("messages-in-a-queue", [pair("DGRAM"), *['write(0, "a", 1) = 1'] * 10], ['write(0, "b", 1) = -1 EAGAIN (Try again)'],
      [['read(1, "a", 9) = 1', 'write(0, "b", 1) = -1 EAGAIN (Try again)'],
@@ -129,11 +177,22 @@ CASES = [
     ("far-offset", ['memfd_create("m", 0) = 0'], ["lseek(0, 9000000000000000, SEEK_SET) = -1 EINVAL (Invalid argument)"],
      [["lseek(0, 9000, SEEK_SET) = -1 EINVAL (Invalid argument)"]]),
     ("abstract-names-by-type", socket("DGRAM", 0, '@"s"'), socket("STREAM", 1, '@"s"'), [socket("DGRAM", 1, '@"s"')]),
+    ("bytes-behind-the-end", ['memfd_create("m", 0) = 0', "lseek(0, 9, SEEK_SET) = 9"], ["ioctl(0, FIONREAD, [-9]) = 0"],
+     [["lseek(0, 0, SEEK_SET) = 0", "ioctl(0, FIONREAD, [9]) = 0"]]),
+    ("memory-of-what-was-sent", [pair("STREAM"), 'write(0, "a", 1) = 1'], ["ioctl(0, TIOCOUTQ, [768]) = 0"],
+     [["ioctl(0, TIOCOUTQ, [0]) = 0"]]),
+    ("outq-of-datagrams", [pair("DGRAM"), 'write(0, "a", 1) = 1'], ["ioctl(0, TIOCOUTQ, [768]) = 0"],
+     [["ioctl(0, TIOCOUTQ, 0x7ffc) = -1 ENOTTY (Inappropriate ioctl for device)"]]),
 ]
 
 
 def replay(lines: list[str]):
     return replayed(HEAD + "".join(f"9 1.{place:03} {line}\n" for place, line in enumerate(lines)))
+
+
+class Coverage(unittest.TestCase):
+    def test_each_rule_has_a_log_in_which_it_holds_and_one_in_which_it_does_not(self):
+        self.assertEqual({name for name, _, holds, others in CASES if holds and others}, {rule.name for rule in RULES})
 
 
 @unittest.skipUnless(UXRUN, "there is no uxrun: build it, or name it by the variable UXRUN")
