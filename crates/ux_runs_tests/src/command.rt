@@ -161,7 +161,7 @@ fn text_and_words_are_asked_for(rt: HostRuntime) -> Result<(), Fail> {
         (["--words"].as_slice(), ErrorKind::MissingRequiredArgument),
         (["--text", "--json"].as_slice(), ErrorKind::ArgumentConflict),
         (
-            ["--text", "--orders"].as_slice(),
+            ["--text", "--follow"].as_slice(),
             ErrorKind::ArgumentConflict,
         ),
     ] {
@@ -330,7 +330,7 @@ fn other_command_lines_are_refused(rt: HostRuntime) -> Result<(), Fail> {
 }
 
 /// The steps in which more memory is left, of 16 bytes each.
-const STEPS: usize = 14400;
+const STEPS: usize = 20480;
 
 /// Reads a command line with no memory, and with 16 bytes more while it is refused, and reports how often it was.
 fn refusals_of(rt: &impl Abort, alloc: Global, words: &[String]) -> Result<usize, Fail> {
@@ -348,7 +348,7 @@ fn refusals_of(rt: &impl Abort, alloc: Global, words: &[String]) -> Result<usize
             Err(error) => assert!(rt; error.kind() == ErrorKind::OutOfMemory),
         }
     }
-    Err(Fail::from("refused with 225 KiB"))
+    Err(Fail::from("refused with 320 KiB"))
 }
 
 #[test]
@@ -396,7 +396,7 @@ fn faults_have_their_texts(rt: HostRuntime) -> Result<(), Fail> {
         (CommandFault::Update, "replies not written"),
         (
             CommandFault::Named,
-            "names of what calls give go with the order of the lines alone, and not with --update",
+            "names and constants don't go with --update",
         ),
         (CommandFault::NoCall(3), "line 3 makes no call"),
         (CommandFault::LeftOut(2), "left out 2 of the lines"),
