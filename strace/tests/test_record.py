@@ -42,6 +42,7 @@ class Ending(unittest.TestCase):
         process = subprocess.Popen(command, cwd=folder, stdin=subprocess.DEVNULL, stdout=subprocess.DEVNULL, stderr=subprocess.DEVNULL,
                                    preexec_fn=take_signals)
         self.assertTrue(wait_for((Path(folder) / "there").exists))
+        self.assertTrue(wait_for(lambda: pid.exists() and pid.read_text("ascii") != ""))
         return process, log, int(pid.read_text("ascii"))
 
     def test_a_signal_ends_all_that_is_traced(self):
