@@ -8,7 +8,7 @@ syntax match uxExpected /^#= .*$/
 syntax match uxHeader /^\(serial\|object\|proc\|off\)\>/
 syntax match uxPid /^\d\+\ze / nextgroup=uxCall,uxWait skipwhite
 syntax match uxCall /\(open\|create\|memfd\|eventfd\|pipe\|read\|write\|lseek\|dup\|dup2\|dupfd\|getfl\|flags\|inq\|outq\|close\|unlink\|socket\)\>/ contained
-syntax match uxCall /\(pair\|bind\|listen\|connect\|accept\|shut\|getopt\|setopt\|sockname\|peername\|send\|recv\|poll\|setids\|fork\|exec\|exit\)\>/ contained
+syntax match uxCall /\(pair\|bind\|listen\|connect\|accept\|shut\|getopt\|setopt\|sockname\|peername\|send\|recv\|poll\|polls\|setids\|fork\|exec\|exit\)\>/ contained
 syntax match uxWait /wait\>/ contained
 syntax match uxName /\<[pa]:\S*/
 syntax match uxControl /\<\(x:[0-9a-f]\+\|[rc]:[0-9,]\+\)\(+[rc]:[0-9,]\+\)\?/

@@ -2,13 +2,13 @@
 ghost use Rattle.std.specs.Prelude.{◌≡◌, ◌↔◌, Some, None, Err, IfOk, IfErr, OnOk};
 ghost use Rattle.ux_model.specs.ControlReading.{control_in};
 ghost use Rattle.ux_model.specs.Types.{Reply};
-ghost use Rattle.ux_model.specs.ReplyKinds.{is_done, is_fd, is_fds, is_count, is_bytes, is_offset, is_message, is_accepted, is_addr, is_value, is_cred, is_ready, is_child, is_flags};
+ghost use Rattle.ux_model.specs.ReplyKinds.{is_done, is_fd, is_fds, is_count, is_bytes, is_offset, is_message, is_accepted, is_addr, is_value, is_cred, is_ready, is_polled, is_child, is_flags};
 ghost use Rattle.delortxa.specs.Answering.{IsOther, other_error};
 
 use crate::fault::CallError;
 use std::alloc::Global;
 use ux_cmsg::{Control, ControlError, read_control};
-use ux_types::{Addr, Bytes, Cred, Fd, MsgFlags, OpenFlags, Pid, PollFlags, Reply};
+use ux_types::{Addr, Bytes, Cred, Fd, MsgFlags, OpenFlags, Pid, PollFlags, Reply, Revents};
 
 /// What was received, as recvmsg(2) reports it.
 #[derive(Debug, Drop, PartialEq, Eq)]
@@ -162,6 +162,15 @@ pub trait ReplyExt: Sized {
         ensures ready { IfOk result (λ ready. reply self ≡ Reply.Poll ready) }
         ensures failed { IfErr result (IsOther is_ready (reply self)) };
 
+    /// Which conditions are reported of each of several descriptors, in order.
+    ///
+    /// # Errors
+    ///
+    /// `Refused` exactly for a refusal, else `Unlike` exactly for another reply.
+    fn polled(self) -> Result<Revents, CallError>
+        ensures found { IfOk result (λ found. reply self ≡ Reply.Polled found) }
+        ensures failed { IfErr result (IsOther is_polled (reply self)) };
+
     /// The new process.
     ///
     /// # Errors
@@ -276,6 +285,13 @@ impl ReplyExt for Reply {
     fn ready(self) -> Result<PollFlags, CallError> {
         match self {
             Reply::Poll(flags) => Ok(flags),
+            other => Err(other_reply(other)),
+        }
+    }
+
+    fn polled(self) -> Result<Revents, CallError> {
+        match self {
+            Reply::Polled(found) => Ok(found),
             other => Err(other_reply(other)),
         }
     }

@@ -18,7 +18,8 @@ use std::alloc::Global;
 use ux_book::CallFault;
 use ux_calls::call;
 use ux_types::{
-    Addr, Bytes, Cred, Fd, Mode, OpenFlags, PollFlags, Reply, Request, SockOpt, SockType, Whence,
+    Addr, Bytes, Cred, Fd, Mode, OpenFlags, PollFds, PollFlags, Reply, Request, Revents, SockOpt,
+    SockType, Whence,
 };
 
 /// What makes the calls of a process: a session, which is told the process (`C` is `Pid`), or a seat, which is told the
@@ -527,6 +528,18 @@ pub trait Calls<C: Copy> {
         let request = call::poll(fd);
         let reply = self.ask(who, &request)?;
         reply.ready()
+    }
+
+    /// poll(2) of several descriptors, at most 64, which waits until something is reported of one, or doesn't wait: what is
+    /// reported of each, in order.
+    #[tactic(auto, using(crate::proofs::Calling::fails))]
+    final fn poll_many(&mut self, who: C, fds: PollFds, waits: bool) -> Result<Revents, CallError>
+        ensures made { IfOk result (λ found. did who self.old self.new (Request.PollMany fds waits) (Reply.Polled found)) }
+        ensures failed { IfErr result (λ error. Fails did unmade who self.old self.new (Request.PollMany fds waits) error) }
+    {
+        let request = call::poll_many(fds, waits);
+        let reply = self.ask(who, &request)?;
+        reply.polled()
     }
 
     /// setresuid(2) and setresgid(2) at once: the real, the effective and the saved ids of the process become these.

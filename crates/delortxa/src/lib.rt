@@ -40,7 +40,7 @@ pub use ux_objects::{FailAt, Plain};
 pub use ux_orders::{Found, OrderFault, OrderList, Ran};
 pub use ux_trace::entry_text;
 pub use ux_types::{
-    Addr, Bytes, Cred, Entry, Errno, Fd, Mode, MsgFlags, Name, OpenFlags, Pid, PollFlags, ProcSpec,
-    Reply, Request, SockOpt, SockType, Whence,
+    Addr, Bytes, Cred, Entry, Errno, Fd, Mode, MsgFlags, Name, OpenFlags, Pid, PollFd, PollFds,
+    PollFlags, ProcSpec, Reply, Request, Revents, SockOpt, SockType, Whence,
 };
 pub use whole::Unfinished;

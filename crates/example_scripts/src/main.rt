@@ -49,6 +49,8 @@ const SCRIPTS: &[&str] = &[
     "file_objects_are_made",
     "semaphore_taken_one_by_one",
     "what_waits_in_queues",
+    "event_loop",
+    "thundering_herd",
     "nul_in_names",
     "longest_names",
     "one_name_wanted_twice",

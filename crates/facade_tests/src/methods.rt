@@ -17,7 +17,7 @@ pub(crate) const CALLER: Cred = Cred {
 };
 
 /// How many calls `call_all` makes, each of which is an entry.
-pub(crate) const CALLS: u64 = 114;
+pub(crate) const CALLS: u64 = 116;
 
 /// How many processes there may be, those that have exited too.
 pub(crate) const MOST: u32 = 1024;

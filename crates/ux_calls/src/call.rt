@@ -9,8 +9,8 @@ ghost use Rattle.ux_calls.specs.Calls.{no_open_flags, no_msg_flags, rights_space
 use std::alloc::{AllocError, Global};
 use ux_cmsg::{Control, write_control};
 use ux_types::{
-    Addr, Bytes, Fd, Mode, MsgFlags, Name, OpenFlags, RIGHTS_LIMIT, Request, SockOpt, SockType,
-    Whence,
+    Addr, Bytes, Fd, Mode, MsgFlags, Name, OpenFlags, PollFds, RIGHTS_LIMIT, Request, SockOpt,
+    SockType, Whence,
 };
 
 const NO_OPEN_FLAGS: OpenFlags = OpenFlags(0);
@@ -396,6 +396,13 @@ pub fn poll(fd: Fd) -> Request
     ensures { result ≡ Request.Poll fd }
 {
     Request::Poll { fd }
+}
+
+/// poll(2) of several descriptors, at most 64, which waits until something is reported of one, or doesn't wait.
+pub fn poll_many(fds: PollFds, waits: bool) -> Request
+    ensures { result ≡ Request.PollMany fds waits }
+{
+    Request::PollMany { fds, waits }
 }
 
 /// setresuid(2) and setresgid(2) at once: the real, the effective and the saved ids are one.

@@ -27,7 +27,7 @@ const NO_CHILDREN: Elsewhere = Elsewhere::Lacking(
 const NO_SIGNALS: Elsewhere = Elsewhere::Lacking("there are no signals");
 
 const NO_EPOLL: Elsewhere = Elsewhere::Lacking(
-    "there is no epoll; poll tells of one descriptor, and doesn't wait",
+    "there is no epoll; poll tells of one descriptor, and polls of several",
 );
 
 const NO_ATTRIBUTES: Elsewhere = Elsewhere::Lacking("files have no attributes");
@@ -59,9 +59,15 @@ const CALLS: &[(&str, Elsewhere)] = &[
     ("recvfrom", Elsewhere::Here("recv")),
     ("recvmsg", Elsewhere::Here("recv")),
     ("recvmmsg", Elsewhere::Here("recv")),
-    ("select", Elsewhere::Here("poll, of one descriptor")),
-    ("pselect", Elsewhere::Here("poll, of one descriptor")),
-    ("ppoll", Elsewhere::Here("poll, of one descriptor")),
+    (
+        "select",
+        Elsewhere::Here("polls, or poll of one descriptor"),
+    ),
+    (
+        "pselect",
+        Elsewhere::Here("polls, or poll of one descriptor"),
+    ),
+    ("ppoll", Elsewhere::Here("polls, or poll of one descriptor")),
     ("epoll_create", NO_EPOLL),
     ("epoll_create1", NO_EPOLL),
     ("epoll_ctl", NO_EPOLL),
@@ -119,6 +125,8 @@ const VALUES: &[(&str, &str)] = &[
     ("SO_PEERCRED", "peercred"),
     ("SO_ACCEPTCONN", "accept"),
     ("SO_RCVBUF", "qlimit"),
+    ("-1", "wait"),
+    ("0", "now"),
 ];
 
 /// Which of these words stands for a value of a manual page.

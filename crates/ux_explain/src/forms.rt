@@ -34,7 +34,12 @@ pub enum Form {
     Target,
     /// Control data.
     Control,
+    /// Descriptors, each with what is asked for.
+    PollFds,
 }
+
+/// What the letters of a descriptor's conditions stand for.
+const EVENTS: &str = "i is POLLIN, o is POLLOUT, h is POLLRDHUP";
 
 /// Words that are joined by commas, and the last by `or`.
 #[derive(Clone, Copy)]
@@ -92,6 +97,10 @@ impl fmt::Display for Form {
             Form::Control => write!(
                 f,
                 "CONTROL: -, x:HEX or x:\"text\", r:N,N,.. or c:PID,UID,GID, or one of each joined by +"
+            ),
+            Form::PollFds => write!(
+                f,
+                "FDS: descriptors with what is asked for, as 3:i,4:io,5:-, or - for none; {EVENTS}"
             ),
         }
     }
@@ -274,6 +283,8 @@ impl Form {
             FieldKind::CounterFlags => Form::Letters(field.sign, "anxs"),
             FieldKind::MsgFlags => Form::Letters(field.sign, "dptx"),
             FieldKind::Control => Form::Control,
+            FieldKind::PollFds => Form::PollFds,
+            FieldKind::Waits => Form::Choice(field.sign, &["wait", "now"]),
         }
     }
 
@@ -285,7 +296,7 @@ impl Form {
             Form::Kind(_) => "pipe",
             Form::Number(_, 0) | Form::Space | Form::Rights | Form::Signed(..) => "0",
             Form::Number(..) => "1",
-            Form::Hex | Form::Letters(..) | Form::Target | Form::Control => "-",
+            Form::Hex | Form::Letters(..) | Form::Target | Form::Control | Form::PollFds => "-",
             Form::Choice(_, [first, ..]) => first,
             Form::Choice(_, []) => "",
             Form::Path => "p:",
@@ -314,6 +325,7 @@ impl Form {
             ],
             Form::Hex => &["", "-", "0", "0\"", "00\"", "n\""],
             Form::Letters(..) => &["", "-"],
+            Form::PollFds => &["", "-", ":-", "0:-"],
             Form::Path | Form::Address | Form::Target => {
                 &["", "-", "u", "p:", ":", "0", "00", "f"]
             }

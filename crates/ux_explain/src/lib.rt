@@ -14,6 +14,7 @@ mod names;
 mod near;
 mod numbers;
 mod place;
+mod polling;
 mod quoted;
 mod texts;
 mod words;

@@ -5,6 +5,7 @@ use crate::control::control_miss;
 use crate::forms::{FirstWord, Form, Rows};
 use crate::names::{address_miss, path_miss, target_miss};
 use crate::numbers::{number_miss, rights_miss, signed_miss, space_miss};
+use crate::polling::poll_fds_miss;
 use crate::quoted::text_miss;
 
 /// The first byte of a word that is wrong, counted from the word's start, and why. At the word's length the word ends
@@ -136,7 +137,8 @@ fn order_miss(letters: &[u8], word: &[u8], form: Form) -> Option<Miss> {
     None
 }
 
-fn letters_miss(letters: &'static str, word: &[u8], form: Form) -> Option<Miss> {
+/// Where letters go wrong, or `-` for none.
+pub(crate) fn letters_miss(letters: &'static str, word: &[u8], form: Form) -> Option<Miss> {
     match word {
         [] => Some(Miss::new(0, Cause::Expected(form))),
         [dash] if *dash == b'-' => None,
@@ -162,6 +164,7 @@ pub(crate) fn miss_of(form: Form, word: &[u8]) -> Option<Miss> {
         Form::Address => address_miss(word, form),
         Form::Target => target_miss(word),
         Form::Control => control_miss(word),
+        Form::PollFds => poll_fds_miss(word),
         Form::Head | Form::Call | Form::Kind(_) => None,
     }
 }

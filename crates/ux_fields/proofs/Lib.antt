@@ -1,3 +1,4 @@
 pub mod Making
+mod SameLists
 mod SameRequests
 mod SameReplies

@@ -37,6 +37,7 @@ word_text CallWord.PeerName = codes "peername"
 word_text CallWord.Send = codes "send"
 word_text CallWord.Recv = codes "recv"
 word_text CallWord.Poll = codes "poll"
+word_text CallWord.Polls = codes "polls"
 word_text CallWord.SetIds = codes "setids"
 word_text CallWord.Fork = codes "fork"
 word_text CallWord.Exec = codes "exec"
@@ -75,6 +76,7 @@ request_word (Request.GetPeerName fd) = CallWord.PeerName
 request_word (Request.SendMsg fd addr bytes control flags) = CallWord.Send
 request_word (Request.RecvMsg fd n space flags) = CallWord.Recv
 request_word (Request.Poll fd) = CallWord.Poll
+request_word (Request.PollMany fds waits) = CallWord.Polls
 request_word (Request.SetIds uid gid) = CallWord.SetIds
 request_word Request.Fork = CallWord.Fork
 request_word Request.Exec = CallWord.Exec
@@ -155,6 +157,12 @@ mflags_form = (codes "flags", codes "MFLAGS", FieldKind.MsgFlags)
 abbrev control_form : List ℕ × List ℕ × FieldKind
 control_form = (codes "control", codes "CONTROL", FieldKind.Control)
 
+abbrev fds_form : List ℕ × List ℕ × FieldKind
+fds_form = (codes "fds", codes "FDS", FieldKind.PollFds)
+
+abbrev waits_form : List ℕ × List ℕ × FieldKind
+waits_form = (codes "waits", codes "WAITS", FieldKind.Waits)
+
 -- the fields of a call in the order of a script's line: the name of each, the sign that stands for it in forms, and its kind
 abbrev pub form : CallWord → List (List ℕ × List ℕ × FieldKind)
 form CallWord.Open = path_form ∷ mode_form ∷ oflags_form ∷ []
@@ -188,6 +196,7 @@ form CallWord.PeerName = fd_form ∷ []
 form CallWord.Send = fd_form ∷ target_form ∷ bytes_form ∷ control_form ∷ mflags_form ∷ []
 form CallWord.Recv = fd_form ∷ n_form ∷ space_form ∷ mflags_form ∷ []
 form CallWord.Poll = fd_form ∷ []
+form CallWord.Polls = fds_form ∷ waits_form ∷ []
 form CallWord.SetIds = uid_form ∷ gid_form ∷ []
 form CallWord.Fork = []
 form CallWord.Exec = []
@@ -221,7 +230,7 @@ script_words =
     ∷ CallWord.Dup ∷ CallWord.Dup2 ∷ CallWord.DupFrom ∷ CallWord.GetFlags ∷ CallWord.Flags ∷ CallWord.Inq ∷ CallWord.Outq ∷ CallWord.Close
     ∷ CallWord.Unlink ∷ CallWord.Socket ∷ CallWord.Pair ∷ CallWord.Bind ∷ CallWord.Listen ∷ CallWord.Connect ∷ CallWord.Accept
     ∷ CallWord.Shut ∷ CallWord.GetOpt ∷ CallWord.SetOpt ∷ CallWord.SockName ∷ CallWord.PeerName ∷ CallWord.Send ∷ CallWord.Recv
-    ∷ CallWord.Poll ∷ CallWord.SetIds ∷ CallWord.Fork ∷ CallWord.Exec ∷ CallWord.Exit ∷ []
+    ∷ CallWord.Poll ∷ CallWord.Polls ∷ CallWord.SetIds ∷ CallWord.Fork ∷ CallWord.Exec ∷ CallWord.Exit ∷ []
 
 -- the end of the whole layer, which no process calls
 abbrev pub is_off_word : CallWord → Bool

@@ -10,6 +10,7 @@ use Rattle.ux_types.specs.declared.SockType.{SockType}
 use Rattle.ux_types.specs.declared.SockOpt.{SockOpt}
 use Rattle.ux_types.specs.declared.OpenFlags.{OpenFlags}
 use Rattle.ux_types.specs.declared.MsgFlags.{MsgFlags}
+use Rattle.ux_types.specs.declared.PollFds.{PollFds}
 use Rattle.ux_types.specs.declared.Request.{Request}
 use Rattle.ux_fields.specs.declared.call_word.CallWord.{CallWord}
 use Rattle.ux_fields.specs.declared.forms.FieldKind.{FieldKind}
@@ -36,6 +37,8 @@ Value FieldKind.OpenFlags = OpenFlags
 Value FieldKind.CounterFlags = Bool × OpenFlags
 Value FieldKind.MsgFlags = MsgFlags
 Value FieldKind.Control = Bytes
+Value FieldKind.PollFds = PollFds
+Value FieldKind.Waits = Bool
 
 -- a value for each of these kinds, in order
 abbrev pub Row : List FieldKind → Type 0
@@ -75,6 +78,7 @@ row_of (Request.GetPeerName fd) = (fd, tt)
 row_of (Request.SendMsg fd addr bytes control flags) = (fd, (addr, (bytes, (control, (flags, tt)))))
 row_of (Request.RecvMsg fd n space flags) = (fd, (n, (space, (flags, tt))))
 row_of (Request.Poll fd) = (fd, tt)
+row_of (Request.PollMany fds waits) = (fds, (waits, tt))
 row_of (Request.SetIds uid gid) = (uid, (gid, tt))
 row_of Request.Fork = tt
 row_of Request.Exec = tt
@@ -114,6 +118,7 @@ request_of CallWord.PeerName x = Request.GetPeerName x.0
 request_of CallWord.Send x = Request.SendMsg x.0 x.1.0 x.1.1.0 x.1.1.1.0 x.1.1.1.1.0
 request_of CallWord.Recv x = Request.RecvMsg x.0 x.1.0 x.1.1.0 x.1.1.1.0
 request_of CallWord.Poll x = Request.Poll x.0
+request_of CallWord.Polls x = Request.PollMany x.0 x.1.0
 request_of CallWord.SetIds x = Request.SetIds x.0 x.1.0
 request_of CallWord.Fork x = Request.Fork
 request_of CallWord.Exec x = Request.Exec
@@ -141,6 +146,8 @@ pub data FieldValue : Type 0 where
   counter_flags_field : (it : Bool × OpenFlags) → FieldValue
   msg_flags_field : (it : MsgFlags) → FieldValue
   control_field : (it : Bytes) → FieldValue
+  poll_fds_field : (it : PollFds) → FieldValue
+  waits_field : (it : Bool) → FieldValue
 
 abbrev pub valued : (kind : FieldKind) → Value kind → FieldValue
 valued FieldKind.Fd it = fd_field it
@@ -162,6 +169,8 @@ valued FieldKind.OpenFlags it = open_flags_field it
 valued FieldKind.CounterFlags it = counter_flags_field it
 valued FieldKind.MsgFlags it = msg_flags_field it
 valued FieldKind.Control it = control_field it
+valued FieldKind.PollFds it = poll_fds_field it
+valued FieldKind.Waits it = waits_field it
 
 -- the values of a row, each with its kind
 abbrev pub fields_in : (kinds : List FieldKind) → Row kinds → List FieldValue

@@ -1,7 +1,7 @@
 -- A field that a request lends.
 use Rattle.ux_fields.specs.declared.fields.Field.{Field}
 use Rattle.ux_fields.specs.Rows.{FieldValue, fd_field, number_field, size_field, space_field, value_field, offset_field, backlog_field, path_field, bytes_field}
-use Rattle.ux_fields.specs.Rows.{addr_field, target_field, mode_field, whence_field, type_field, option_field, open_flags_field, counter_flags_field, msg_flags_field, control_field}
+use Rattle.ux_fields.specs.Rows.{addr_field, target_field, mode_field, whence_field, type_field, option_field, open_flags_field, counter_flags_field, msg_flags_field, control_field, poll_fds_field, waits_field}
 
 -- the field without the loan
 abbrev pub seen : Field → FieldValue
@@ -24,3 +24,5 @@ seen (Field.OpenFlags it) = open_flags_field it
 seen (Field.CounterFlags semaphore flags) = counter_flags_field (semaphore, flags)
 seen (Field.MsgFlags it) = msg_flags_field it
 seen (Field.Control it) = control_field it.now
+seen (Field.PollFds it) = poll_fds_field it.now
+seen (Field.Waits it) = waits_field it

@@ -3,7 +3,9 @@
 ghost use Rattle.std.specs.Prelude.{◌≡◌, ◌≤◌};
 
 use std::marker::Model;
-use ux_types::{Addr, Bytes, Fd, Mode, MsgFlags, Name, OpenFlags, SockOpt, SockType, Whence};
+use ux_types::{
+    Addr, Bytes, Fd, Mode, MsgFlags, Name, OpenFlags, PollFds, SockOpt, SockType, Whence,
+};
 
 /// A field of a request.
 #[derive(Clone, Copy)]
@@ -27,6 +29,8 @@ pub enum Field<'a> {
     CounterFlags(bool, OpenFlags),
     MsgFlags(MsgFlags),
     Control(&'a Bytes),
+    PollFds(&'a PollFds),
+    Waits(bool),
 }
 
 /// The fields of a request, of which no call has more than five. Contracts see their list.

@@ -46,6 +46,10 @@ pub enum FieldKind {
     MsgFlags,
     /// The bytes of a control buffer.
     Control,
+    /// Descriptors, and what is asked for of each.
+    PollFds,
+    /// Whether the call waits.
+    Waits,
 }
 
 /// A field of a call: its name, the sign that stands for it where the form of a line is shown, and its kind.
@@ -200,6 +204,18 @@ const CONTROL: FieldForm = FieldForm {
     kind: FieldKind::Control,
 };
 
+const FDS: FieldForm = FieldForm {
+    name: "fds",
+    sign: "FDS",
+    kind: FieldKind::PollFds,
+};
+
+const WAITS: FieldForm = FieldForm {
+    name: "waits",
+    sign: "WAITS",
+    kind: FieldKind::Waits,
+};
+
 /// The fields of a call, in the order of a script's line.
 pub fn form_of(word: CallWord) -> &'static [FieldForm]
     ensures { map (λ f. (f.name.now, f.sign.now, f.kind)) result.now ≡ form word }
@@ -224,6 +240,7 @@ pub fn form_of(word: CallWord) -> &'static [FieldForm]
         CallWord::GetOpt => &[FD, OPT],
         CallWord::SetOpt => &[FD, OPT, VALUE],
         CallWord::SockName | CallWord::PeerName | CallWord::Poll => &[FD],
+        CallWord::Polls => &[FDS, WAITS],
         CallWord::Send => &[FD, TARGET, BYTES, CONTROL, MFLAGS],
         CallWord::Recv => &[FD, N, SPACE, MFLAGS],
         CallWord::SetIds => &[UID, GID],

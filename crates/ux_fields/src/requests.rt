@@ -57,6 +57,7 @@ pub fn fields_of(request: &Request) -> Fields<'_>
         | Request::GetSockName { fd }
         | Request::GetPeerName { fd }
         | Request::Poll { fd } => fields!(Field::Fd(*fd)),
+        Request::PollMany { fds, waits } => fields!(Field::PollFds(fds), Field::Waits(*waits)),
         Request::Dup2 { fd, to } | Request::DupFrom { fd, minimum: to } => {
             fields!(Field::Fd(*fd), Field::Fd(*to))
         }

@@ -4,16 +4,17 @@ ghost use Rattle.std.specs.Prelude.{◌≡◌, codes, Some, IfOk, OnOk, map, opt
 ghost use Rattle.serde_json.specs.Data.{number, unsigned};
 ghost use Rattle.serde_json.specs.Find.{get};
 ghost use Rattle.serde_json.specs.View.{view, members_view};
+ghost use Rattle.ux_fields.specs.Rows.{poll_fds_field};
 ghost use Rattle.ux_fields.specs.Seen.{seen};
 ghost use Rattle.ux_json.specs.Arguments.{descriptor_of, target_data, IsDataOf, HasAdded, HasArguments};
 
 use crate::control::control_value;
 use crate::words::{addr_text, counter_flag_names, flag_names, hex_text, path_text};
-use serde_json::{Map, Value, put};
+use serde_json::{Map, Value, json, put};
 use std::alloc::{AllocError, Global};
 use ux_fields::{CallWord, Field, FieldForm, fields_of, form_of};
 use ux_trace::{mode_word, option_word, type_word, whence_word};
-use ux_types::{Addr, Request};
+use ux_types::{Addr, PollFd, PollFds, Request};
 
 /// An address as a script has it, or null for none.
 fn target_value(alloc: Global, addr: &Option<Addr>) -> Result<Value, AllocError>
@@ -23,6 +24,25 @@ fn target_value(alloc: Global, addr: &Option<Addr>) -> Result<Value, AllocError>
         Some(addr) => Ok(Value::String(addr_text(alloc, addr)?)),
         None => Ok(Value::Null),
     }
+}
+
+/// A descriptor and the names of the conditions that are asked for.
+fn asked_value(alloc: Global, asked: PollFd) -> Result<Value, AllocError>
+    ensures { IfOk result (λ v. get (codes "fd") (view v) ≡ Some (number (unsigned asked.fd.0))) }
+{
+    let events = flag_names(alloc, &asked.events)?;
+    json!(in alloc; {"fd": asked.fd.0, "events": events})
+}
+
+/// The descriptors of a poll, an object each.
+fn poll_fds_value(alloc: Global, fds: &PollFds) -> Result<Value, AllocError>
+    ensures { IfOk result (λ v. IsDataOf (poll_fds_field fds.now) (view v)) }
+{
+    let mut objects = Vec::new(alloc);
+    for asked in fds.as_slice() {
+        objects.push(asked_value(alloc, *asked)?)?;
+    }
+    Ok(Value::Array(objects))
 }
 
 /// A field as a value.
@@ -49,6 +69,8 @@ fn field_value(alloc: Global, field: Field<'_>) -> Result<Value, AllocError>
         Field::CounterFlags(semaphore, flags) => counter_flag_names(alloc, semaphore, &flags),
         Field::MsgFlags(flags) => flag_names(alloc, &flags),
         Field::Control(bytes) => control_value(alloc, bytes.as_slice()),
+        Field::PollFds(fds) => poll_fds_value(alloc, fds),
+        Field::Waits(waits) => Ok(Value::Bool(waits)),
     }
 }
 
@@ -74,7 +96,8 @@ fn add_fields(
 }
 
 /// The arguments of a call as an object: a number for a number, and the script's word for a word. Flags are a list of names,
-/// bytes are hexadecimal digits, and control bytes are what they spell.
+/// bytes are hexadecimal digits, control bytes are what they spell, and the descriptors of a poll are a list of objects. Whether
+/// a call waits is true or false.
 ///
 /// # Errors
 ///

@@ -11,7 +11,7 @@ use crate::words::{addr_or_null, addr_text, flag_names, hex_text};
 use serde_json::{Value, json};
 use std::alloc::{AllocError, Global};
 use ux_trace::errno_name;
-use ux_types::{Addr, Bytes, Cred, Errno, Fd, MsgFlags, OpenFlags, Pid, PollFlags, Reply};
+use ux_types::{Addr, Bytes, Cred, Errno, Fd, MsgFlags, OpenFlags, Pid, PollFlags, Reply, Revents};
 
 /// A reply as an object: its member `kind` is the first word that a trace has for it, and says which other members it has.
 ///
@@ -40,6 +40,7 @@ pub fn reply_value(alloc: Global, reply: &Reply) -> Result<Value, AllocError>
         Reply::Opt(value) => json!(in alloc; {"kind": "opt", "value": *value}),
         Reply::Cred(cred) => credentials(alloc, *cred),
         Reply::Poll(flags) => polled(alloc, *flags),
+        Reply::Polled(found) => polled_each(alloc, found),
         Reply::Child(pid) => forked(alloc, *pid),
         Reply::Flags(flags) => flagged(alloc, *flags),
         Reply::Err(errno) => refused(alloc, *errno),
@@ -96,6 +97,22 @@ fn polled(alloc: Global, flags: PollFlags) -> Result<Value, AllocError>
 {
     let conditions = flag_names(alloc, &flags)?;
     json!(in alloc; {"kind": "poll", "conditions": conditions})
+}
+
+/// The names of the conditions of each descriptor.
+fn conditions_of(alloc: Global, found: &Revents) -> Result<Value, AllocError> {
+    let mut sets = Vec::new(alloc);
+    for flags in found.as_slice() {
+        sets.push(flag_names(alloc, flags)?)?;
+    }
+    Ok(Value::Array(sets))
+}
+
+fn polled_each(alloc: Global, found: &Revents) -> Result<Value, AllocError>
+    ensures { IfOk result (λ v. get (codes "kind") (view v) ≡ Some (string (codes "polled"))) }
+{
+    let conditions = conditions_of(alloc, found)?;
+    json!(in alloc; {"kind": "polled", "conditions": conditions})
 }
 
 fn forked(alloc: Global, pid: Pid) -> Result<Value, AllocError>

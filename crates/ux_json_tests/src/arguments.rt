@@ -90,6 +90,15 @@ const CALLS: &[(&str, &str)] = &[
     ("sockname 0", r#"{"fd": 0}"#),
     ("peername 7", r#"{"fd": 7}"#),
     ("poll 0", r#"{"fd": 0}"#),
+    (
+        "polls 3:i,4:io,5:- wait",
+        r#"{"fds": [{"fd": 3, "events": ["IN"]}, {"fd": 4, "events": ["IN", "OUT"]}, {"fd": 5, "events": []}], "waits": true}"#,
+    ),
+    (
+        "polls 4294967295:h now",
+        r#"{"fds": [{"fd": 4294967295, "events": ["RDHUP"]}], "waits": false}"#,
+    ),
+    ("polls - wait", r#"{"fds": [], "waits": true}"#),
     ("setids 1000 100", r#"{"uid": 1000, "gid": 100}"#),
     ("setids 0 4294967295", r#"{"uid": 0, "gid": 4294967295}"#),
     ("fork", "{}"),

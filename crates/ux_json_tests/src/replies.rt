@@ -5,7 +5,9 @@ use std::alloc::Global;
 use std::process::Abort;
 use std::test::Fail;
 use ux_json::{addr_text, cred_value, path_text, reply_value};
-use ux_types::{Addr, Bytes, Cred, Errno, Fd, MsgFlags, Name, OpenFlags, Pid, PollFlags, Reply};
+use ux_types::{
+    Addr, Bytes, Cred, Errno, Fd, MsgFlags, Name, OpenFlags, Pid, PollFlags, Reply, Revents,
+};
 
 fn expect(rt: &impl Abort, alloc: Global, reply: &Reply, wanted: &str) -> Result<(), Fail> {
     let value = reply_value(alloc, reply)?;
@@ -60,6 +62,27 @@ fn replies_of_numbers(rt: HostRuntime) -> Result<(), Fail> {
         expect(&rt, alloc, reply, wanted)?;
     }
     Ok(())
+}
+
+#[test]
+fn replies_of_several_descriptors(rt: HostRuntime) -> Result<(), Fail> {
+    let alloc = rt.alloc();
+    expect(
+        &rt,
+        alloc,
+        &Reply::Polled(Revents::new()),
+        r#"{"kind": "polled", "conditions": []}"#,
+    )?;
+    let mut found = Revents::new();
+    found.push(PollFlags::IN | PollFlags::OUT);
+    found.push(PollFlags(0));
+    found.push(PollFlags::NVAL);
+    expect(
+        &rt,
+        alloc,
+        &Reply::Polled(found),
+        r#"{"kind": "polled", "conditions": [["IN", "OUT"], [], ["NVAL"]]}"#,
+    )
 }
 
 #[test]

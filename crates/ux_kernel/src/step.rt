@@ -127,6 +127,7 @@ impl<O: FileObject> Kernel<O> {
                 return recv_msg(&mut self.state, self.alloc, pid, *fd, asked);
             }
             Request::Poll { fd } => self.poll(pid, *fd),
+            Request::PollMany { fds, waits } => self.poll_many(pid, fds, *waits),
             Request::SetIds { uid, gid } => self.set_ids(pid, *uid, *gid),
             Request::Fork => self.fork(pid),
             Request::Exec => Ok(self.exec(pid)),

@@ -1,4 +1,4 @@
-//! Which calls may wait until they can be done (O_NONBLOCK of open(2), MSG_DONTWAIT of send(2) and recv(2)).
+//! Which calls may wait until they can be done (O_NONBLOCK of open(2), MSG_DONTWAIT of send(2) and recv(2), the time limit of poll(2)).
 ghost use Rattle.std.specs.Prelude.{◌≡◌, true, ℕ, IsTrue};
 ghost use Rattle.ux_model.specs.Types.{Reply, Errno};
 ghost use Rattle.ux_model.specs.State.{is_live};
@@ -16,7 +16,8 @@ use ux_types::{Bytes, Fd, MsgFlags, Pid, Request};
 
 impl<O: FileObject> Kernel<O> {
     /// Whether a call of this live process may wait: a read, a write, a connect, an accept, a send or a
-    /// receive by an open number whose description isn't non-blocking, and without MSG_DONTWAIT.
+    /// receive by an open number whose description isn't non-blocking, and without MSG_DONTWAIT; and a poll of several that
+    /// waits.
     #[tactic(auto, unfolding(ux_model::specs::Waiting::may_wait))]
     pub fn may_wait(&self, pid: Pid, request: &Request) -> bool
         requires { IsTrue (is_live self.now pid.0) }
@@ -30,6 +31,7 @@ impl<O: FileObject> Kernel<O> {
             Request::SendMsg { fd, flags, .. } | Request::RecvMsg { fd, flags, .. } => {
                 self.is_blocking(pid, *fd) && !flags.contains(MsgFlags::DONTWAIT)
             }
+            Request::PollMany { waits, .. } => *waits,
             _ => false,
         }
     }

@@ -11,6 +11,7 @@ mod objects;
 mod options;
 mod pairs;
 mod paths;
+mod polls;
 mod queue_lengths;
 mod queue_limits;
 mod rights;
@@ -25,8 +26,8 @@ use ux_kernel::Kernel;
 use ux_objects::{Counter, Plain};
 use ux_state::ReleasedObjects;
 use ux_types::{
-    Addr, Bytes, Cred, Errno, Fd, Mode, MsgFlags, Name, OpenFlags, Pid, PollFlags, ProcSpec, Reply,
-    Request, SockOpt, SockType,
+    Addr, Bytes, Cred, Errno, Fd, Mode, MsgFlags, Name, OpenFlags, POLL_LIMIT, Pid, PollFd,
+    PollFds, PollFlags, ProcSpec, Reply, Request, Revents, SockOpt, SockType,
 };
 
 /// A user's process with this descriptor limit.
@@ -249,6 +250,8 @@ enum Asked {
     GetOpt(u32, SockOpt),
     SetOpt(u32, SockOpt, u64),
     Poll(u32),
+    /// Numbers with the bits of what is asked for, and whether it waits.
+    Polls(&'static [(u32, u8)], bool),
     Send(u32, &'static [u8], u8),
     SendTo(u32, At, &'static [u8]),
     /// So many bytes `x`.
@@ -295,6 +298,8 @@ enum Told {
     Opt(u64),
     Cred(u32, u32, u32),
     Poll(u8),
+    /// The bits of what is reported of each.
+    Polled(&'static [u8]),
     Child(u32),
     /// APPEND, NONBLOCK and CLOEXEC.
     Flags(u8),
@@ -316,6 +321,30 @@ fn addr_of(alloc: Global, at: &At) -> Result<Addr, AllocError> {
         At::Path(bytes) => Addr::Path(Name::from_slice(alloc, bytes)?),
         At::Abstract(bytes) => Addr::Abstract(Name::from_slice(alloc, bytes)?),
     })
+}
+
+/// A poll of several descriptors.
+fn poll_of_several(alloc: Global, fds: &[(u32, u8)], waits: bool) -> Result<Request, AllocError> {
+    let mut asked = Vec::with_capacity(alloc, fds.len())?;
+    for (fd, events) in fds {
+        asked.push(PollFd {
+            fd: Fd(*fd),
+            events: PollFlags(*events),
+        })?;
+    }
+    let fds = PollFds::new(asked);
+    Ok(Request::PollMany { fds, waits })
+}
+
+/// What is reported of each of at most 64 descriptors.
+fn revents(sets: &[u8]) -> Revents {
+    let mut found = Revents::new();
+    for set in sets {
+        if found.as_slice().len() < POLL_LIMIT {
+            found.push(PollFlags(*set));
+        }
+    }
+    found
 }
 
 /// The request of a row.
@@ -360,6 +389,7 @@ fn request_of(alloc: Global, asked: &Asked) -> Result<Request, AllocError> {
             value: *value,
         },
         Asked::Poll(fd) => Request::Poll { fd: Fd(*fd) },
+        Asked::Polls(fds, waits) => poll_of_several(alloc, fds, *waits)?,
         Asked::Send(fd, bytes, flags) => send(alloc, *fd, None, bytes, *flags)?,
         Asked::SendTo(fd, at, bytes) => send(alloc, *fd, Some(addr_of(alloc, at)?), bytes, 0)?,
         Asked::SendMany(fd, count) => send(alloc, *fd, None, &copies(alloc, *count)?, 0)?,
@@ -408,6 +438,7 @@ fn reply_of(alloc: Global, told: &Told) -> Result<Reply, AllocError> {
             gid: *gid,
         }),
         Told::Poll(flags) => Reply::Poll(PollFlags(*flags)),
+        Told::Polled(sets) => Reply::Polled(revents(sets)),
         Told::Child(pid) => Reply::Child(Pid(*pid)),
         Told::Flags(flags) => Reply::Flags(OpenFlags(*flags)),
         Told::Err(errno) => refused(*errno),

@@ -17,7 +17,8 @@ use ux_layer::{Layer, Seat, start};
 use ux_object::FileObject;
 use ux_objects::Counter;
 use ux_types::{
-    Addr, Bytes, Errno, Fd, MsgFlags, Name, OpenFlags, Pid, ProcSpec, Reply, Request, SockType,
+    Addr, Bytes, Errno, Fd, MsgFlags, Name, OpenFlags, Pid, PollFd, PollFds, PollFlags, ProcSpec,
+    Reply, Request, Revents, SockType,
 };
 
 mod deadlock;
@@ -170,7 +171,28 @@ fn send(alloc: Global, fd: u32, bytes: &[u8]) -> Result<Request, AllocError>
     })
 }
 
-/// Listens, takes one connection, and sends two bytes.
+/// A poll of one socket that waits for input.
+fn poll_for_input(alloc: Global, fd: u32) -> Result<Request, AllocError>
+    ensures { IfOk result (λ r. has_own_call r ≡ false) }
+{
+    let asked = PollFd {
+        fd: Fd(fd),
+        events: PollFlags::IN,
+    };
+    Ok(Request::PollMany {
+        fds: PollFds::new(vec![in alloc; asked]?),
+        waits: true,
+    })
+}
+
+/// There is input, of one socket.
+fn input() -> Reply {
+    let mut found = Revents::new();
+    found.push(PollFlags::IN);
+    Reply::Polled(found)
+}
+
+/// Listens, waits by a poll for a connection, takes it, and sends two bytes.
 fn serve<W: BookName, R: Wait>(
     rt: &R,
     alloc: Global,
@@ -183,6 +205,7 @@ fn serve<W: BookName, R: Wait>(
     w.expect_reply(rt, Request::Bind { fd: Fd(0), addr }, Reply::Ok)?;
     let backlog = 4;
     w.expect_reply(rt, Request::Listen { fd: Fd(0), backlog }, Reply::Ok)?;
+    w.expect_reply(rt, poll_for_input(alloc, 0)?, input())?;
     let flags = OpenFlags(0);
     let accepted = Reply::Accepted(Fd(1), Addr::Unnamed);
     w.expect_reply(rt, Request::Accept { fd: Fd(0), flags }, accepted)?;
@@ -267,9 +290,9 @@ fn settle<W: BookName, R: Wait + Abort>(
 ) -> Result<(), Fail> {
     let entries = settle_both(rt, alloc, layer, served, asked);
     let ends = (layer.off(rt), layer.off(rt));
-    assert_eq!(rt; entries?, 10);
+    assert_eq!(rt; entries?, 11);
     assert_eq!(rt; ends, (Ok(()), Err(OffFault::Given)));
-    assert_eq!(rt; layer.book(rt).book().entries().len(), 11);
+    assert_eq!(rt; layer.book(rt).book().entries().len(), 12);
     Ok(())
 }
 

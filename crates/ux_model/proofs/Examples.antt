@@ -15,3 +15,4 @@ mod NameExamples
 mod ForkingExamples
 mod UserExamples
 mod QueueLengthExamples
+mod PollingExamples

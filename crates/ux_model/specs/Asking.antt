@@ -13,6 +13,7 @@ asks (Request.OutQueue fd) = true
 asks (Request.GetSockName fd) = true
 asks (Request.GetPeerName fd) = true
 asks (Request.Poll fd) = true
+asks (Request.PollMany fds waits) = true
 asks _ = false
 
 -- of a state that has nothing left to release, as all states of legal histories are

@@ -22,6 +22,7 @@ takes_no_memory (Request.Shutdown fd how) = true
 takes_no_memory (Request.GetOpt fd opt) = true
 takes_no_memory (Request.SetOpt fd SockOpt.QueueLimit value) = true
 takes_no_memory (Request.Poll fd) = true
+takes_no_memory (Request.PollMany fds waits) = true
 takes_no_memory (Request.SetIds uid gid) = true
 takes_no_memory Request.Exec = true
 takes_no_memory Request.Exit = true

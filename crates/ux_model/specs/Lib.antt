@@ -43,6 +43,7 @@ pub mod Descriptors
 pub mod Accepting
 pub mod Options
 pub mod Readiness
+pub mod Polling
 pub mod QueueLengths
 pub mod Users
 pub mod Forking

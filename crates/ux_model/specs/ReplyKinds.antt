@@ -54,6 +54,10 @@ abbrev pub is_ready : Reply → Bool
 is_ready (Reply.Poll _) = true
 is_ready _ = false
 
+abbrev pub is_polled : Reply → Bool
+is_polled (Reply.Polled _) = true
+is_polled _ = false
+
 abbrev pub is_child : Reply → Bool
 is_child (Reply.Child _) = true
 is_child _ = false
@@ -106,6 +110,7 @@ kind_of (Request.GetPeerName fd) = is_addr
 kind_of (Request.SendMsg fd addr bytes control flags) = is_count
 kind_of (Request.RecvMsg fd n space flags) = is_message
 kind_of (Request.Poll fd) = is_ready
+kind_of (Request.PollMany fds waits) = is_polled
 kind_of (Request.SetIds uid gid) = is_done
 kind_of Request.Fork = is_child
 kind_of Request.Exec = is_done

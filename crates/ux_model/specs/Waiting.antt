@@ -1,4 +1,4 @@
--- Which calls may wait (read(2), write(2), connect(2), accept(2), send(2), recv(2); O_NONBLOCK, MSG_DONTWAIT).
+-- Which calls may wait (read(2), write(2), connect(2), accept(2), send(2), recv(2), poll(2); O_NONBLOCK, MSG_DONTWAIT).
 use Rattle.std.specs.Prelude.{ℕ, Bool, true, false, not, ◌&&◌, Ok, Err}
 use Rattle.ux_model.specs.Types.{Errno, Fd, Request, Reply}
 use Rattle.ux_model.specs.Flags.{asks_dontwait}
@@ -17,6 +17,7 @@ may_wait S p (Request.Connect fd addr) = is_blocking S p fd
 may_wait S p (Request.Accept fd flags) = is_blocking S p fd
 may_wait S p (Request.SendMsg fd addr bytes control flags) = is_blocking S p fd && not (asks_dontwait flags)
 may_wait S p (Request.RecvMsg fd n space flags) = is_blocking S p fd && not (asks_dontwait flags)
+may_wait S p (Request.PollMany fds waits) = waits
 may_wait S p _ = false
 
 abbrev pub is_again : Reply → Bool

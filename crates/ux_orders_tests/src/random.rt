@@ -58,6 +58,8 @@ const SHARED_PAIR: &[&str] = &[
     "shut 0 r",
     "dup 0",
     "poll 1",
+    "polls 1:i wait",
+    "polls 0:i,1:oh now",
     "setopt 1 passcred 1",
 ];
 
@@ -92,6 +94,7 @@ const CLIENT: &[&str] = &[
     "close 0",
     "shut 0 w",
     "connect 0 a:server",
+    "polls 0:ih wait",
     "listen 0 1",
 ];
 
@@ -102,7 +105,10 @@ const CONNECTED: Family = Family {
         (1, &["socket stream -", "socket seq -"]),
         (1, &["bind 0 a:server", "bind 0 p:server"]),
         (1, &["listen 0 1", "listen 0 2"]),
-        (1, &["accept 0 -", "accept 0 -", "close 0"]),
+        (
+            1,
+            &["accept 0 -", "accept 0 -", "polls 0:i wait", "close 0"],
+        ),
         (2, &["wait 1 2", "wait 1 3", "wait 1 3"]),
         (2, &["socket stream -", "socket stream n"]),
         (2, &["connect 0 a:server", "connect 0 p:server"]),
@@ -130,6 +136,7 @@ const USED: &[&str] = &[
     "write 0 0100000000000000",
     "write 0 61",
     "read 0 1",
+    "polls 0:i wait",
     "lseek 0 1 set",
     "unlink p:notes",
     "close 0",

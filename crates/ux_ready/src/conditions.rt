@@ -1,6 +1,7 @@
 //! Conditions, one by one.
 ghost use Rattle.std.specs.Prelude.{◌≡◌};
 ghost use Rattle.ux_model.specs.Readiness as model;
+ghost use Rattle.ux_model.specs.Polling as polling;
 
 use bitflags::Flags;
 use std::marker::Model;
@@ -42,6 +43,19 @@ impl Conditions {
             read_hung: false,
             hung: false,
             failed: false,
+        }
+    }
+
+    /// Of these, what poll(2) reports where this is asked for: HUP and ERR in any case.
+    pub(crate) fn reported(self, events: PollFlags) -> Conditions
+        ensures { result ≡ polling.reported events self }
+    {
+        Conditions {
+            readable: events.contains(PollFlags::IN) && self.readable,
+            writable: events.contains(PollFlags::OUT) && self.writable,
+            read_hung: events.contains(PollFlags::RDHUP) && self.read_hung,
+            hung: self.hung,
+            failed: self.failed,
         }
     }
 

@@ -1,5 +1,6 @@
 //! The readiness of a description.
 ghost use Rattle.std.specs.Prelude.{◌≡◌};
+ghost use Rattle.ux_model.specs.Polling as polling;
 ghost use Rattle.ux_model.specs.Readiness as model;
 
 use crate::conditions::Conditions;
@@ -16,6 +17,17 @@ pub fn readiness<O: FileObject>(state: &State<O>, id: DescriptionId) -> PollFlag
 {
     match state.description(id) {
         Some(description) => conditions(state, id, description).flags(),
+        None => PollFlags::NVAL,
+    }
+}
+
+/// What poll(2) reports of a description where these conditions are asked for: NVAL alone where it isn't there. It takes no
+/// memory.
+pub fn reported<O: FileObject>(state: &State<O>, id: DescriptionId, events: PollFlags) -> PollFlags
+    ensures { result ≡ polling.reported_at state.now id events }
+{
+    match state.description(id) {
+        Some(description) => conditions(state, id, description).reported(events).flags(),
         None => PollFlags::NVAL,
     }
 }

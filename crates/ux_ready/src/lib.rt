@@ -7,4 +7,4 @@ mod descriptions;
 mod files;
 mod sockets;
 
-pub use descriptions::readiness;
+pub use descriptions::{readiness, reported};

@@ -180,6 +180,7 @@ impl ReplyRoom {
             Reply::Opt(value) => Reply::Opt(*value),
             Reply::Cred(cred) => Reply::Cred(*cred),
             Reply::Poll(flags) => Reply::Poll(*flags),
+            Reply::Polled(found) => Reply::Polled(found.copy()),
             Reply::Child(pid) => Reply::Child(*pid),
             Reply::Flags(flags) => Reply::Flags(*flags),
             Reply::Err(errno) => Reply::Err(*errno),

@@ -1,44 +1,25 @@
 -- A call's words that are read are the spelling of what was read, and each spelling is read again.
-use Rattle.std.proofs.Common.{◌≡◌, ℕ, true, false, ltb, List, [], ◌∷◌, Result, Ok, Err, refl, ◌∙◌, subst}
-use Rattle.std.specs.Prelude.{decimal}
+use Rattle.std.proofs.Common.{◌≡◌, ℕ, true, false, ltb, List, [], ◌∷◌, Result, Ok, refl, ◌∙◌}
 use Rattle.std.specs.List.{AllByRecursion, list_all}
-use Rattle.ux_model.specs.Types.{Fd, Request}
+use Rattle.ux_model.specs.Types.{Request}
 use Rattle.ux_fields.specs.declared.CallWord.{CallWord}
 use Rattle.ux_fields.specs.declared.FieldKind.{FieldKind}
 use Rattle.ux_fields.specs.Forms.{word_text, kinds, script_words, is_off_word}
 use Rattle.ux_fields.specs.Rows.{request_of}
 use Rattle.ux_syntax.specs.declared.fault.Fault.{Fault}
-use Rattle.ux_syntax.specs.declared.fault.Fault.TheVariants.{BadLine}
 use Rattle.ux_syntax.specs.Spelling.{WrittenRow, Written, meant_row, meaning, spelling, spellings, args_of, FitsField, FitsFields, FitsCall}
-use Rattle.ux_syntax.specs.Spelling.{IsNumber}
-use Rattle.ux_syntax.specs.Reading.{◌>>=◌, number_at, fd_at, value_at, values_at, called_at, word_at, args_at}
-use Rattle.ux_syntax.proofs.Rows.{IsSolid, IsBadOrOk, IsKind, IsRow, solid_from, bind_bad, bind_ok, ok_is, done, ends_row}
-use Rattle.ux_syntax.proofs.Rows.{row_then, number_kind}
+use Rattle.ux_syntax.specs.Reading.{value_at, values_at, called_at, word_at, args_at}
+use Rattle.ux_syntax.proofs.Rows.{IsSolid, IsBadOrOk, IsKind, IsRow, solid_from, bind_bad, bind_ok, ok_is, ends_row}
+use Rattle.ux_syntax.proofs.Rows.{row_then, number_kind, fd_kind}
 use Rattle.ux_syntax.proofs.Bytes.{hex_kind}
 use Rattle.ux_syntax.proofs.Flags.{open_flags_kind, counter_flags_kind, msg_flags_kind}
-use Rattle.ux_syntax.proofs.Choices.{chosen_takes, chosen_bad, mode_kind, type_kind, option_kind, whence_kind}
+use Rattle.ux_syntax.proofs.Choices.{chosen_takes, chosen_bad, mode_kind, type_kind, option_kind, whence_kind, waits_kind}
 use Rattle.ux_syntax.proofs.Offsets.{offset_kind, backlog_kind}
 use Rattle.ux_syntax.proofs.Names.{path_kind, addr_kind}
 use Rattle.ux_syntax.proofs.Controls.{addr_or_dash_kind, control_kind}
+use Rattle.ux_syntax.proofs.Polls.{poll_fds_kind}
 
 -- ---- kinds of fields
-
-abbrev numbered : ℕ → Fd
-numbered n = record { 0 = n }
-
-fd_takes : (w : List ℕ) (fd : Fd) → fd_at w ≡ Ok fd → (w ≡ decimal fd.0) × IsNumber fd.0
-fd_takes w fd e =
-    let a = bind_ok (number_at w) (λ n. done (numbered n)) fd e in
-    let p = number_kind.takes w a.0 a.1 in
-    subst (λ (x : Fd). (w ≡ decimal x.0) × IsNumber x.0) (ok_is (numbered a.0) fd a.2) p
-
-fd_kind : IsKind fd_at (λ fd. decimal fd.0) (λ fd. IsNumber fd.0)
-fd_kind = record {
-  takes = fd_takes;
-  bad = λ w. bind_bad (number_at w) (λ n. done (numbered n)) (number_kind.bad w) (λ n. tt);
-  again = λ fd f. rw (number_kind.again fd.0 f) refl;
-  solid = λ fd f. number_kind.solid fd.0 f;
-}
 
 field_facts : (kind : FieldKind) → IsKind (value_at kind) (spelling kind) (FitsField kind)
 field_facts FieldKind.Fd = fd_kind
@@ -60,6 +41,8 @@ field_facts FieldKind.OpenFlags = open_flags_kind
 field_facts FieldKind.CounterFlags = counter_flags_kind
 field_facts FieldKind.MsgFlags = msg_flags_kind
 field_facts FieldKind.Control = control_kind
+field_facts FieldKind.PollFds = poll_fds_kind
+field_facts FieldKind.Waits = waits_kind
 
 fields_facts : (ks : List FieldKind) → IsRow (values_at ks) (spellings ks) (FitsFields ks)
 fields_facts [] = ends_row

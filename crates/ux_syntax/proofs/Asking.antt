@@ -1,31 +1,18 @@
 -- What a process's number stands before, when it is read, is the spelling of what was read, and each spelling is read again.
-use Rattle.std.proofs.Common.{◌≡◌, ℕ, Bool, true, false, cond, List, [], ◌∷◌, Result, Ok, Err, refl, ap, sym, ◌∙◌, subst, Decides, codes}
+use Rattle.std.proofs.Common.{◌≡◌, ℕ, Bool, true, false, cond, List, [], ◌∷◌, Ok, Err, refl, ap, sym, ◌∙◌, subst, codes}
 use Rattle.std.specs.List.{AllByRecursion}
 use Rattle.std.specs.Str.{bytes_eq}
 use Rattle.std.proofs.lemmas.Slice.Eq.{bytes_eq-Decides}
 use Rattle.ux_model.specs.Types.{Request}
-use Rattle.ux_syntax.specs.declared.fault.Fault.{Fault}
 use Rattle.ux_syntax.specs.declared.fault.Fault.TheVariants.{BadLine}
 use Rattle.ux_syntax.specs.declared.script.Act.{Act}
 use Rattle.ux_fields.specs.declared.CallWord.{CallWord}
 use Rattle.ux_fields.specs.Forms.{word_text, is_off_word}
 use Rattle.ux_syntax.specs.Spelling.{Asked, call, wait, act_of, asked_words, FitsAsked}
 use Rattle.ux_syntax.specs.Reading.{◌>>=◌, number_at, ends, ◌>>◌, word_at, args_at, wait_at, call_at, act_at}
-use Rattle.ux_syntax.proofs.Rows.{IsSolid, solid_from, IsBadOrOk, either_bad, bind_bad, bind_ok, done, ok_is, number_kind, ends_row}
-use Rattle.ux_syntax.proofs.Rows.{row_then}
+use Rattle.ux_syntax.proofs.Rows.{IsSolid, solid_from, IsBadOrOk, either_bad, bind_bad, bind_ok, ok_is, number_kind, ends_row}
+use Rattle.ux_syntax.proofs.Rows.{row_then, other_than}
 use Rattle.ux_syntax.proofs.Args.{args_takes, args_bad, word_bad, args_again, args_solid, word_takes, word_again, word_solid}
-
-err_ok : {A : Type 0} (x : A) → Err BadLine ≡ done x → ⊥
-err_ok x e = cc
-
--- a word that is read is none at which the reading fails
-pub other_than : {A : Type 0} (read : List ℕ → Result A Fault) (v w : List ℕ) (x : A) → read v ≡ Ok x → read w ≡ Err BadLine →
-    bytes_eq v w ≡ false
-other_than read v w x e r = go (bytes_eq v w) (bytes_eq-Decides v w)
-  where
-    go : (t : Bool) → Decides t (v ≡ w) → t ≡ false
-    go true d = absurd (err_ok x (sym r ∙ ap read (sym (d.0 refl)) ∙ e))
-    go false d = refl
 
 -- the words ask for this, as it may be written
 abbrev AsksFor : List (List ℕ) → Act → Type 0

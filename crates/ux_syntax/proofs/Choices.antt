@@ -7,8 +7,8 @@ use Rattle.std.specs.Str.{bytes_eq}
 use Rattle.std.proofs.lemmas.Slice.Eq.{bytes_eq-Decides}
 use Rattle.ux_model.specs.Types.{SockType, SockOpt, Mode, Whence}
 use Rattle.ux_object.specs.declared.ObjKind.{ObjKind}
-use Rattle.ux_syntax.specs.Spelling.{bit, mode_text, type_text, option_text, whence_text, kind_text}
-use Rattle.ux_syntax.specs.Reading.{or_bad, beside_at, chosen_at, bit_at, mode_at, type_at, option_at, whence_at, kind_at}
+use Rattle.ux_syntax.specs.Spelling.{bit, mode_text, type_text, option_text, whence_text, waits_text, kind_text}
+use Rattle.ux_syntax.specs.Reading.{or_bad, beside_at, chosen_at, bit_at, mode_at, type_at, option_at, whence_at, waits_at, kind_at}
 use Rattle.ux_syntax.proofs.Rows.{IsBadOrOk, IsKind, ok_is, solid_from}
 
 head_or_tail : {X : Type 0} (p : X → Bool) (y : X) (ys : List X) (x : X) (b : Bool) → p y ≡ b → (or_bad (find p ys) ≡ Ok x → p x ≡ true) →
@@ -119,6 +119,14 @@ each_whence Whence.End = (refl, refl)
 pub whence_kind : IsKind whence_at whence_text (λ _. Unit {0})
 unfolding whence_at
 whence_kind = chosen_kind whence_text (Whence.Set ∷ Whence.Cur ∷ Whence.End ∷ []) each_whence
+
+each_waits : (b : Bool) → IsChosen waits_text (false ∷ true ∷ []) b
+each_waits false = (refl, refl)
+each_waits true = (refl, refl)
+
+pub waits_kind : IsKind waits_at waits_text (λ _. Unit {0})
+unfolding waits_at
+waits_kind = chosen_kind waits_text (false ∷ true ∷ []) each_waits
 
 each_kind : (k : ObjKind) → IsChosen kind_text (ObjKind.Memory ∷ ObjKind.Counter ∷ ObjKind.Pipe ∷ []) k
 each_kind ObjKind.Memory = (refl, refl)

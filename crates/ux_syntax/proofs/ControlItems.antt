@@ -1,25 +1,21 @@
 -- Items of control data: descriptor numbers and credentials.
-use Rattle.std.proofs.Common.{◌≡◌, lit<, ℕ, ◌<◌, ◌≤◌, ◌&&◌, map, Bool, true, false, cond, eqb, leb, List, [], ◌∷◌, ◌++◌, length, All, Ok}
+use Rattle.std.proofs.Common.{◌≡◌, lit<, ℕ, ◌<◌, ◌&&◌, map, Bool, true, false, cond, eqb, List, [], ◌∷◌, length, All, Ok}
 use Rattle.std.proofs.Common.{Err, refl, ap, sym, ◌∙◌, subst, arith}
 use Rattle.std.specs.Prelude.{decimal}
-use Rattle.std.specs.List.{AllByRecursion, slice_split, join_with_byte, list_all}
-use Rattle.std.specs.Char.{is_ascii_digit}
-use Rattle.std.proofs.lemmas.Bool.{and_parts, leb-true, eqb-true, ne_eqb}
+use Rattle.std.specs.List.{AllByRecursion, slice_split, join_with_byte}
+use Rattle.std.proofs.lemmas.Bool.{and_parts, eqb-true}
 use Rattle.std.proofs.lemmas.List.{length-map}
-use Rattle.std.proofs.lemmas.List.Elements.{All-from_recursion}
 use Rattle.std.proofs.lemmas.List.Splits.{slice_split_at, slice_split_none, length-slice_split, join_with_byte-slice_split}
-use Rattle.std.proofs.lemmas.Fmt.{digits_decimal}
 use Rattle.ux_model.specs.Types.{Cred}
 use Rattle.ux_syntax.specs.declared.control.ControlItem.{ControlItem}
 use Rattle.ux_syntax.specs.declared.control.ControlWord.{ControlWord}
 use Rattle.ux_syntax.specs.declared.fault.Fault.TheVariants.{BadLine}
 use Rattle.ux_trace.specs.Trace.{rights_text, cred_text}
 use Rattle.ux_syntax.specs.Spelling.{IsNumber, control_text, FitsRights, FitsCred, FitsControl}
-use Rattle.ux_syntax.specs.Reading.{◌>>=◌, ◌>>◌, ends, number_at, each_number_at, numbers_at, cred_at, control_item_at, alone, paired}
+use Rattle.ux_syntax.specs.Reading.{◌>>=◌, ◌>>◌, ends, number_at, each_at, numbers_at, cred_at, control_item_at, alone, paired}
 use Rattle.ux_syntax.specs.Reading.{each_item_at, control_items_at}
-use Rattle.ux_syntax.proofs.Numbers.{own}
-use Rattle.ux_syntax.proofs.Rows.{IsSolid, IsBadOrOk, IsRow, bind_ok, ok_is, either_bad, bind_bad, number_kind, ends_row, row_then}
-use Rattle.ux_syntax.proofs.Flags.{solid_append}
+use Rattle.ux_syntax.proofs.Rows.{IsSolid, IsBadOrOk, IsRow, bind_ok, ok_is, either_bad, bind_bad, number_kind, ends_row, row_then, each_row}
+use Rattle.ux_syntax.proofs.Apart.{HasNo, all_other, no_append, no_such_digit, split_joined, solid_append, solid_joined}
 
 -- ---- numbers and the commas between them
 
@@ -29,66 +25,31 @@ is_comma b = eqb b 44
 abbrev with_commas : List ℕ → List ℕ
 with_commas ns = join_with_byte 44 (map decimal ns)
 
--- the word hasn't this byte
-abbrev HasNo : ℕ → List ℕ → Type 0
-HasNo byte w = AllByRecursion (λ b. eqb b byte ≡ false) w
+number_row : IsRow (each_at number_at) (map decimal) (AllByRecursion IsNumber)
+number_row = each_row number_kind
 
-all_other : (byte : ℕ) (w : List ℕ) → HasNo byte w → All (λ b. eqb b byte ≡ false) w
-all_other byte w h = All-from_recursion (λ b. eqb b byte ≡ false) w h
-
-no_digit : (byte : ℕ) (w : List ℕ) → byte < 48 → list_all is_ascii_digit w ≡ true → HasNo byte w
-no_digit byte [] low h = tt
-no_digit byte (c ∷ cs) low h =
-    let p = and_parts (is_ascii_digit c) (list_all is_ascii_digit cs) h in
-    let high : 48 ≤ c = leb-true 48 c (and_parts (leb 48 c) (leb c 57) p.0).0 in
-    (ne_eqb c byte (λ e. omega arith), no_digit byte cs low p.1)
-
-no_such_digit : (byte n : ℕ) → byte < 48 → IsNumber n → HasNo byte (decimal n)
-no_such_digit byte n low h = no_digit byte (decimal n) low (digits_decimal own n (omega arith))
-
-no_comma : (n : ℕ) → IsNumber n → All (λ b. is_comma b ≡ false) (decimal n)
-no_comma n h = all_other 44 (decimal n) (no_such_digit 44 n (lit< tt) h)
+no_commas : (ns : List ℕ) → AllByRecursion IsNumber ns → AllByRecursion (HasNo 44) (map decimal ns)
+no_commas [] h = tt
+no_commas (n ∷ ns) h = (no_such_digit 44 n refl h.0, no_commas ns h.1)
 
 split_numbers : (n : ℕ) (ns : List ℕ) → AllByRecursion IsNumber (n ∷ ns) →
     slice_split is_comma (with_commas (n ∷ ns)) ≡ map decimal (n ∷ ns)
-split_numbers n [] h = slice_split_none is_comma (decimal n) (no_comma n h.0)
-split_numbers n (m ∷ ns) h =
-    slice_split_at is_comma (decimal n) 44 (with_commas (m ∷ ns)) (no_comma n h.0) refl
-    ∙ ap (λ (ws : List (List ℕ)). decimal n ∷ ws) (split_numbers m ns h.1)
+split_numbers n ns h = split_joined 44 (decimal n) (map decimal ns) refl (no_such_digit 44 n refl h.0) (no_commas ns h.1)
 
 commas_solid : (n : ℕ) (ns : List ℕ) → AllByRecursion IsNumber (n ∷ ns) → IsSolid (with_commas (n ∷ ns))
-commas_solid n [] h = number_kind.solid n h.0
-commas_solid n (m ∷ ns) h = solid_append (decimal n) (44 ∷ with_commas (m ∷ ns)) (number_kind.solid n h.0) (lit< tt, commas_solid m ns h.1)
-
-each_takes : (ws : List (List ℕ)) (ns : List ℕ) → each_number_at ws ≡ Ok ns → (ws ≡ map decimal ns) × AllByRecursion IsNumber ns
-each_takes [] ns e = subst (λ (x : List ℕ). ([] ≡ map decimal x) × AllByRecursion IsNumber x) (ok_is [] ns e) (refl, tt)
-each_takes (w ∷ ws) ns e =
-    let a = bind_ok (number_at w) (λ number. each_number_at ws >>= λ numbers. Ok (number ∷ numbers)) ns e in
-    let b = bind_ok (each_number_at ws) (λ numbers. Ok (a.0 ∷ numbers)) ns a.2 in
-    let p = number_kind.takes w a.0 a.1 in
-    let q = each_takes ws b.0 b.1 in
-    subst (λ (x : List ℕ). (w ∷ ws ≡ map decimal x) × AllByRecursion IsNumber x) (ok_is (a.0 ∷ b.0) ns b.2)
-    (ap (λ (x : List ℕ). x ∷ ws) p.0 ∙ ap (λ (xs : List (List ℕ)). decimal a.0 ∷ xs) q.0, (p.1, q.1))
-
-each_again : (ns : List ℕ) → AllByRecursion IsNumber ns → each_number_at (map decimal ns) ≡ Ok ns
-each_again [] h = refl
-each_again (n ∷ ns) h = rw (number_kind.again n h.0, each_again ns h.1) refl
-
-each_bad : (ws : List (List ℕ)) → IsBadOrOk (each_number_at ws)
-each_bad [] = tt
-each_bad (w ∷ ws) = bind_bad (number_at w) _ (number_kind.bad w) (λ number. bind_bad (each_number_at ws) _ (each_bad ws) (λ numbers. tt))
+commas_solid n ns h = solid_joined 44 (decimal n) (map decimal ns) (lit< tt) (number_kind.solid n h.0) (number_row.solid ns h.1)
 
 numbers_takes : (w ns : List ℕ) → numbers_at w ≡ Ok ns → (w ≡ with_commas ns) × FitsRights ns
 unfolding numbers_at
 numbers_takes w ns e =
-    let p = each_takes (slice_split is_comma w) ns e in
+    let p = number_row.takes (slice_split is_comma w) ns e in
     let long : length (slice_split is_comma w) ≡ length ns = ap (λ (ws : List (List ℕ)). length ws) p.0 ∙ length-map ns decimal in
     (sym (join_with_byte-slice_split 44 w) ∙ ap (join_with_byte 44) p.0, (omega (arith, length-slice_split is_comma w, long), p.1))
 
 numbers_again : (ns : List ℕ) → FitsRights ns → numbers_at (with_commas ns) ≡ Ok ns
 unfolding numbers_at
 numbers_again [] f = absurd (omega (arith, f.0))
-numbers_again (n ∷ ns) f = ap each_number_at (split_numbers n ns f.1) ∙ each_again (n ∷ ns) f.1
+numbers_again (n ∷ ns) f = ap (each_at number_at) (split_numbers n ns f.1) ∙ number_row.again (n ∷ ns) f.1
 
 numbers_solid : (ns : List ℕ) → FitsRights ns → IsSolid (with_commas ns)
 numbers_solid [] f = tt
@@ -96,7 +57,7 @@ numbers_solid (n ∷ ns) f = commas_solid n ns f.1
 
 numbers_bad : (w : List ℕ) → IsBadOrOk (numbers_at w)
 unfolding numbers_at
-numbers_bad w = each_bad (slice_split is_comma w)
+numbers_bad w = number_row.bad (slice_split is_comma w)
 
 -- ---- credentials
 
@@ -206,14 +167,10 @@ item_solid (ControlItem.Credentials cred) f = (lit< tt, (lit< tt, commas_solid c
 abbrev is_plus : ℕ → Bool
 is_plus b = eqb b 43
 
-no_plus_append : (v w : List ℕ) → HasNo 43 v → HasNo 43 w → HasNo 43 (v ++ w)
-no_plus_append [] w p q = q
-no_plus_append (c ∷ cs) w p q = (p.0, no_plus_append cs w p.1 q)
-
 commas_no_plus : (ns : List ℕ) → AllByRecursion IsNumber ns → HasNo 43 (with_commas ns)
 commas_no_plus [] h = tt
-commas_no_plus (n ∷ []) h = no_such_digit 43 n (lit< tt) h.0
-commas_no_plus (n ∷ m ∷ ns) h = no_plus_append (decimal n) (44 ∷ with_commas (m ∷ ns)) (no_such_digit 43 n (lit< tt) h.0)
+commas_no_plus (n ∷ []) h = no_such_digit 43 n refl h.0
+commas_no_plus (n ∷ m ∷ ns) h = no_append 43 (decimal n) (44 ∷ with_commas (m ∷ ns)) (no_such_digit 43 n refl h.0)
     (refl, commas_no_plus (m ∷ ns) h.1)
 
 item_no_plus : (i : ControlItem) → FitsItem i → HasNo 43 (control_item_text i)

@@ -1,18 +1,20 @@
 -- Flags in letters.
-use Rattle.std.proofs.Common.{◌≡◌, ℕ, zero, suc, ◌<◌, ◌+◌, Bool, true, false, cond, eqb, List, [], ◌∷◌, ◌++◌, length, bit_or, Ok, Err, refl}
+use Rattle.std.proofs.Common.{◌≡◌, ℕ, zero, suc, ◌<◌, ◌+◌, Bool, true, false, not, cond, eqb, List, [], ◌∷◌, ◌++◌, length, bit_or, Ok, Err, refl}
 use Rattle.std.proofs.Common.{ap, sym, ◌∙◌, subst, arith, Decides, lit<}
+use Rattle.std.specs.List.{list_all}
 use Rattle.std.specs.Str.{bytes_eq}
 use Rattle.std.proofs.lemmas.Bool.{eqb-true}
 use Rattle.std.proofs.lemmas.List.{append-nil, nil_from_length}
 use Rattle.std.proofs.lemmas.Slice.Eq.{bytes_eq-Decides}
-use Rattle.ux_model.specs.Types.{OpenFlags, MsgFlags}
+use Rattle.ux_model.specs.Types.{OpenFlags, MsgFlags, PollFlags}
 use Rattle.ux_model.specs.Flags.{has_bits}
 use Rattle.ux_syntax.specs.declared.fault.Fault.TheVariants.{BadLine}
 use Rattle.ux_trace.specs.Trace.{dash}
-use Rattle.ux_syntax.specs.Spelling.{letter, or_dash, open_flags, counter_flags, msg_flags, FitsOpenFlags, FitsMsgFlags}
-use Rattle.ux_syntax.specs.Reading.{letter_at, open_flags_at, counter_flags_at, msg_flags_at}
+use Rattle.ux_syntax.specs.Spelling.{letter, or_dash, open_flags, counter_flags, msg_flags, events_text, FitsOpenFlags, FitsMsgFlags, FitsEvents}
+use Rattle.ux_syntax.specs.Reading.{letter_at, open_flags_at, counter_flags_at, msg_flags_at, events_at}
 use Rattle.ux_syntax.proofs.Rows.{IsSolid, IsBadOrOk, IsKind, done, ok_is, guard_bad, either_bad}
 use Rattle.ux_syntax.proofs.Bytes.{dash_solid}
+use Rattle.ux_syntax.proofs.Apart.{HasNo, has_no_from, solid_append}
 
 -- ---- letters in a row
 
@@ -46,10 +48,6 @@ flags_chosen : {F : Type 0} (text : F → List ℕ) (Fits : F → Type 0) (none 
 flags_chosen {F = F} text Fits none f g w front rest true u long d h n m e p fits k =
     subst (λ (x : F). (w ≡ text x) × Fits x) (ok_is none g k) (d.0 refl ∙ sym n, m)
 flags_chosen text Fits none f g w front rest false u long d h n m e p fits k = flags_end text Fits f g w front rest u long h e p fits k
-
-pub solid_append : (v w : List ℕ) → IsSolid v → IsSolid w → IsSolid (v ++ w)
-solid_append [] w p q = q
-solid_append (c ∷ cs) w p q = (p.0, solid_append cs w p.1 q)
 
 letter_solid : (b : Bool) (c : ℕ) → 32 < c → IsSolid (letter b c)
 letter_solid true c h = (h, tt)
@@ -290,3 +288,85 @@ msg_solid f h = or_dash_solid (msg_letters (has_bits f.0 4) (has_bits f.0 1) (ha
 
 pub msg_flags_kind : IsKind msg_flags_at msg_flags FitsMsgFlags
 msg_flags_kind = record { takes = msg_takes; bad = msg_bad; again = λ f h. below_at MsgAgain 16 f.0 each_msg h; solid = msg_solid }
+
+-- ---- the letters ioh
+
+abbrev events_letters : Bool → Bool → Bool → List ℕ
+events_letters i o h = letter i 105 ++ (letter o 111 ++ letter h 104)
+
+abbrev events_made : Bool → Bool → Bool → PollFlags
+events_made i o h = record { 0 = bit_or (bit_or (cond i 1 0) (cond o 2 0)) (cond h 4 0) }
+
+-- the text of the conditions, that they fit, and their letters before what follows
+abbrev IsEventsText : Bool → Bool → Bool → Type 0
+IsEventsText i o h = (events_text (events_made i o h) ≡ or_dash (events_letters i o h)) × FitsEvents (events_made i o h)
+    × ((rest : List ℕ) → letter i 105 ++ (letter o 111 ++ (letter h 104 ++ rest)) ≡ events_letters i o h ++ rest)
+
+events_told : (i o h : Bool) → IsEventsText i o h
+events_told true true true = (refl, lit< tt, λ rest. refl)
+events_told true true false = (refl, lit< tt, λ rest. refl)
+events_told true false true = (refl, lit< tt, λ rest. refl)
+events_told true false false = (refl, lit< tt, λ rest. refl)
+events_told false true true = (refl, lit< tt, λ rest. refl)
+events_told false true false = (refl, lit< tt, λ rest. refl)
+events_told false false true = (refl, lit< tt, λ rest. refl)
+events_told false false false = (refl, lit< tt, λ rest. refl)
+
+events_takes : (w : List ℕ) (g : PollFlags) → events_at w ≡ Ok g → (w ≡ events_text g) × FitsEvents g
+unfolding events_at
+events_takes [] g e = absurd cc
+events_takes (c ∷ cs) g e =
+    let w = c ∷ cs in
+    let i = letter_at 105 w in
+    let o = letter_at 111 i.1 in
+    let h = letter_at 104 o.1 in
+    let parts : w ≡ letter i.0 105 ++ (letter o.0 111 ++ (letter h.0 104 ++ h.1)) =
+    letter_takes 105 w ∙ ap (λ (r : List ℕ). letter i.0 105 ++ r)
+    (letter_takes 111 i.1 ∙ ap (λ (r : List ℕ). letter o.0 111 ++ r) (letter_takes 104 o.1)) in
+    let text = events_told i.0 o.0 h.0 in
+    flags_chosen events_text FitsEvents (record { 0 = 0 }) (events_made i.0 o.0 h.0) g w (events_letters i.0 o.0 h.0) h.1
+    (bytes_eq w dash) (eqb (length h.1) 0) (omega arith) (bytes_eq-Decides w dash) (eqb-true (length h.1) 0) refl (lit< tt)
+    (parts ∙ text.2 h.1) text.0 text.1 e
+
+events_bad : (w : List ℕ) → IsBadOrOk (events_at w)
+unfolding events_at
+events_bad [] = refl
+events_bad (c ∷ cs) = either_bad (bytes_eq (c ∷ cs) dash) (Ok (record { 0 = 0 })) _ tt (guard_bad _ _)
+
+abbrev EventsAgain : ℕ → Type 0
+EventsAgain n = events_at (events_text (record { 0 = n })) ≡ Ok (record { 0 = n })
+
+each_events : From EventsAgain 0 8
+unfolding events_at
+each_events = (refl, (refl, (refl, (refl, (refl, (refl, (refl, (refl, tt))))))))
+
+events_letters_solid : (i o h : Bool) → IsSolid (events_letters i o h)
+events_letters_solid i o h = solid_append (letter i 105) (letter o 111 ++ letter h 104) (letter_solid i 105 (lit< tt))
+    (solid_append (letter o 111) (letter h 104) (letter_solid o 111 (lit< tt)) (letter_solid h 104 (lit< tt)))
+
+events_solid : (f : PollFlags) → FitsEvents f → IsSolid (events_text f)
+events_solid f h = or_dash_solid (events_letters (has_bits f.0 1) (has_bits f.0 2) (has_bits f.0 4))
+    (events_letters_solid (has_bits f.0 1) (has_bits f.0 2) (has_bits f.0 4))
+
+pub events_kind : IsKind events_at events_text FitsEvents
+events_kind = record {
+  takes = events_takes;
+  bad = events_bad;
+  again = λ f h. below_at EventsAgain 8 f.0 each_events h;
+  solid = events_solid;
+}
+
+abbrev AreApart : ℕ → ℕ → Type 0
+AreApart byte n = list_all (λ b. not (eqb b byte)) (events_text (record { 0 = n })) ≡ true
+
+each_no_comma : From (AreApart 44) 0 8
+each_no_comma = (refl, (refl, (refl, (refl, (refl, (refl, (refl, (refl, tt))))))))
+
+each_no_colon : From (AreApart 58) 0 8
+each_no_colon = (refl, (refl, (refl, (refl, (refl, (refl, (refl, (refl, tt))))))))
+
+pub events_no_comma : (f : PollFlags) → FitsEvents f → HasNo 44 (events_text f)
+events_no_comma f h = has_no_from 44 (events_text f) (below_at (AreApart 44) 8 f.0 each_no_comma h)
+
+pub events_no_colon : (f : PollFlags) → FitsEvents f → HasNo 58 (events_text f)
+events_no_colon f h = has_no_from 58 (events_text f) (below_at (AreApart 58) 8 f.0 each_no_colon h)

@@ -17,9 +17,9 @@ use Rattle.ux_syntax.specs.Text.{plain_line}
 use Rattle.ux_syntax.specs.Spelling.{Turn, line_of, header_words, header_line, turn_words, turn_line, is_meant, IsNumber, FitsTurn}
 use Rattle.ux_syntax.specs.Spelling.{FitsHeader}
 use Rattle.ux_syntax.specs.Reading.{◌>>=◌, number_at, ends, proc_at, object_at, act_at, turn_at, words_at, item_at}
-use Rattle.ux_syntax.proofs.Rows.{IsSolid, solid_from, IsBadOrOk, either_bad, bind_bad, bind_ok, ok_is, number_kind, ends_row}
+use Rattle.ux_syntax.proofs.Rows.{IsSolid, solid_from, IsBadOrOk, either_bad, bind_bad, bind_ok, ok_is, number_kind, ends_row, other_than}
 use Rattle.ux_syntax.proofs.Numbers.{number_refused}
-use Rattle.ux_syntax.proofs.Asking.{other_than, act_takes, act_bad, act_again, asked_solid}
+use Rattle.ux_syntax.proofs.Asking.{act_takes, act_bad, act_again, asked_solid}
 use Rattle.ux_syntax.proofs.HeaderLines.{header_args, proc_takes, proc_bad, proc_again, object_takes, object_bad, object_again}
 use Rattle.ux_syntax.proofs.HeaderLines.{header_solid}
 

@@ -8,9 +8,11 @@ pub mod Flags
 pub mod Choices
 pub mod Offsets
 pub mod Names
+pub mod Apart
 pub mod ControlItems
 pub mod Controls
 pub mod Laid
+pub mod Polls
 pub mod Args
 pub mod Asking
 pub mod HeaderLines

@@ -16,7 +16,7 @@ use Rattle.ux_syntax.specs.Reading.{◌>>=◌, digit_at, plain_at, escaped_at, b
 use Rattle.ux_syntax.specs.Reading.{addr_at}
 use Rattle.ux_syntax.proofs.Rows.{IsSolid, IsBadOrOk, IsKind, bind_ok, done, ok_is, guard_bad, either_bad, bind_bad}
 use Rattle.ux_syntax.proofs.Bytes.{digit_takes, digit_again, digit_bad, glyph_solid}
-use Rattle.ux_syntax.proofs.Flags.{solid_append}
+use Rattle.ux_syntax.proofs.Apart.{solid_append}
 use Rattle.ux_syntax.proofs.Pairs.{with_front, regroup}
 
 -- ---- a byte

@@ -6,12 +6,12 @@ use Rattle.ux_syntax.specs.declared.fault.Fault.{Fault}
 use Rattle.ux_syntax.specs.Reading.{◌>>=◌, digit_at, pairs_at}
 
 -- what was read before, and what is still read
-abbrev pub with_front : List ℕ → Result (List ℕ) Fault → Result (List ℕ) Fault
+abbrev pub with_front : {A : Type 0} → List A → Result (List A) Fault → Result (List A) Fault
 with_front front read = read >>= λ x. Ok (front ++ x)
 
-pub regroup : (front : List ℕ) (n : ℕ) (read : Result (List ℕ) Fault) →
+pub regroup : {A : Type 0} (front : List A) (n : A) (read : Result (List A) Fault) →
     with_front front (read >>= λ x. Ok (n ∷ x)) ≡ with_front (front ++ n ∷ []) read
-regroup front n (Ok x) = ap (λ (ns : List ℕ). Ok ns) (simp append_assoc)
+regroup {A = A} front n (Ok x) = ap (λ (ns : List A). Ok ns) (simp append_assoc)
 regroup front n (Err f) = refl
 
 pub pairs_more : (front rest : List ℕ) (high low : ℕ) (total : Result (List ℕ) Fault) → 2 ≤ length rest →

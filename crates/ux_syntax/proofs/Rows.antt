@@ -1,18 +1,21 @@
 -- A word or a row of words that is read is the spelling of what was read, and each spelling is read again.
-use Rattle.std.proofs.Common.{◌≡◌, ℕ, zero, suc, not, ◌<◌, ◌^◌, Bool, true, false, cond, ◌&&◌, ltb, eqb, List, [], ◌∷◌, length, get_or}
+use Rattle.std.proofs.Common.{◌≡◌, ℕ, zero, suc, not, ◌<◌, ◌^◌, Bool, true, false, cond, ◌&&◌, ltb, eqb, List, [], ◌∷◌, length, get_or, map, Decides}
 use Rattle.std.proofs.Common.{Result, Ok, Err, refl, ap, sym, ◌∙◌, subst, arith}
 use Rattle.std.specs.Prelude.{decimal}
 use Rattle.std.specs.List.{list_all, AllByRecursion}
 use Rattle.std.specs.Char.{is_ascii_digit}
+use Rattle.std.specs.Str.{bytes_eq}
 use Rattle.std.specs.Str.Parse.{digits_value}
 use Rattle.std.proofs.lemmas.Bool.{lt-ltb, ltb-true, ne_eqb, and_parts, not_from_false}
 use Rattle.std.proofs.lemmas.Bool.Decides.{nat_tests}
 use Rattle.std.proofs.lemmas.Fmt.{digits_decimal, digits_value-decimal, decimal-digits_value, first_decimal, decimal_nonempty}
 use Rattle.std.proofs.lemmas.Fmt.{decimal_digit}
+use Rattle.std.proofs.lemmas.Slice.Eq.{bytes_eq-Decides}
 use Rattle.ux_syntax.specs.declared.fault.Fault.{Fault}
 use Rattle.ux_syntax.specs.declared.fault.Fault.TheVariants.{BadLine}
 use Rattle.ux_syntax.specs.Spelling.{IsNumber}
-use Rattle.ux_syntax.specs.Reading.{◌>>=◌, is_plain, number_at, one, ends, ◌>>◌}
+use Rattle.ux_model.specs.Types.{Fd}
+use Rattle.ux_syntax.specs.Reading.{◌>>=◌, is_plain, number_at, fd_at, each_at, one, ends, ◌>>◌}
 use Rattle.ux_syntax.proofs.Numbers.{own}
 
 -- no byte of the word ends it
@@ -113,6 +116,55 @@ row_then {k = k} {text = text} {F = F} {r = r} {words = words} {G = G} kind row 
   solid = λ x f. (kind.solid x.0 f.0, row.solid x.1 f.1);
 }
 
+err_ok : {A : Type 0} (x : A) → Err BadLine ≡ done x → ⊥
+err_ok x e = cc
+
+-- a word that is read is none at which the reading fails
+pub other_than : {A : Type 0} (read : List ℕ → Result A Fault) (v w : List ℕ) (x : A) → read v ≡ Ok x → read w ≡ Err BadLine →
+    bytes_eq v w ≡ false
+other_than read v w x e r = go (bytes_eq v w) (bytes_eq-Decides v w)
+  where
+    go : (t : Bool) → Decides t (v ≡ w) → t ≡ false
+    go true d = absurd (err_ok x (sym r ∙ ap read (sym (d.0 refl)) ∙ e))
+    go false d = refl
+
+-- ---- words of one kind
+
+each_takes : {A : Type 0} (k : List ℕ → Result A Fault) (text : A → List ℕ) (F : A → Type 0) → IsKind k text F → (ws : List (List ℕ))
+    (xs : List A) → each_at k ws ≡ Ok xs → (ws ≡ map text xs) × AllByRecursion F xs
+each_takes {A = A} k text F kind [] xs e =
+    subst (λ (ys : List A). ([] ≡ map text ys) × AllByRecursion F ys) (ok_is [] xs e) (refl, tt)
+each_takes {A = A} k text F kind (w ∷ ws) xs e =
+    let a = bind_ok (k w) (λ x. each_at k ws >>= λ ys. Ok (x ∷ ys)) xs e in
+    let b = bind_ok (each_at k ws) (λ ys. Ok (a.0 ∷ ys)) xs a.2 in
+    let p = kind.takes w a.0 a.1 in
+    let q = each_takes k text F kind ws b.0 b.1 in
+    subst (λ (ys : List A). (w ∷ ws ≡ map text ys) × AllByRecursion F ys) (ok_is (a.0 ∷ b.0) xs b.2)
+    (ap (λ (v : List ℕ). v ∷ ws) p.0 ∙ ap (λ (vs : List (List ℕ)). text a.0 ∷ vs) q.0, (p.1, q.1))
+
+each_bad : {A : Type 0} (k : List ℕ → Result A Fault) → ((w : List ℕ) → IsBadOrOk (k w)) → (ws : List (List ℕ)) → IsBadOrOk (each_at k ws)
+each_bad k h [] = tt
+each_bad k h (w ∷ ws) = bind_bad (k w) _ (h w) (λ x. bind_bad (each_at k ws) _ (each_bad k h ws) (λ xs. tt))
+
+each_again : {A : Type 0} (k : List ℕ → Result A Fault) (text : A → List ℕ) (F : A → Type 0) → IsKind k text F → (xs : List A) →
+    AllByRecursion F xs → each_at k (map text xs) ≡ Ok xs
+each_again k text F kind [] f = refl
+each_again k text F kind (x ∷ xs) f = rw (kind.again x f.0, each_again k text F kind xs f.1) refl
+
+each_solid : {A : Type 0} (k : List ℕ → Result A Fault) (text : A → List ℕ) (F : A → Type 0) → IsKind k text F → (xs : List A) →
+    AllByRecursion F xs → AllByRecursion IsSolid (map text xs)
+each_solid k text F kind [] f = tt
+each_solid k text F kind (x ∷ xs) f = (kind.solid x f.0, each_solid k text F kind xs f.1)
+
+pub each_row : {A : Type 0} {k : List ℕ → Result A Fault} {text : A → List ℕ} {F : A → Type 0} → IsKind k text F →
+    IsRow (each_at k) (map text) (AllByRecursion F)
+each_row {k = k} {text = text} {F = F} kind = record {
+  takes = each_takes k text F kind;
+  bad = each_bad k kind.bad;
+  again = each_again k text F kind;
+  solid = each_solid k text F kind;
+}
+
 -- ---- numbers
 
 -- the same by a test that computes
@@ -187,4 +239,23 @@ number_kind = record {
   again = number_again;
   solid =
       λ n h. digits_solid (decimal n) (digits_decimal own n (omega arith));
+}
+
+-- ---- descriptor numbers
+
+abbrev numbered : ℕ → Fd
+numbered n = record { 0 = n }
+
+fd_takes : (w : List ℕ) (fd : Fd) → fd_at w ≡ Ok fd → (w ≡ decimal fd.0) × IsNumber fd.0
+fd_takes w fd e =
+    let a = bind_ok (number_at w) (λ n. done (numbered n)) fd e in
+    let p = number_kind.takes w a.0 a.1 in
+    subst (λ (x : Fd). (w ≡ decimal x.0) × IsNumber x.0) (ok_is (numbered a.0) fd a.2) p
+
+pub fd_kind : IsKind fd_at (λ fd. decimal fd.0) (λ fd. IsNumber fd.0)
+fd_kind = record {
+  takes = fd_takes;
+  bad = λ w. bind_bad (number_at w) (λ n. done (numbered n)) (number_kind.bad w) (λ n. tt);
+  again = λ fd f. rw (number_kind.again fd.0 f) refl;
+  solid = λ fd f. number_kind.solid fd.0 f;
 }

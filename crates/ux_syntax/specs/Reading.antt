@@ -7,7 +7,7 @@ use Rattle.std.specs.Str.{bytes_eq}
 use Rattle.std.specs.Char.{is_ascii_digit}
 use Rattle.std.specs.Str.Parse.{signed_digits_value}
 use Rattle.ux_model.specs.Limits.{made_limit}
-use Rattle.ux_model.specs.Types.{Cred, Fd, Name, Addr, OpenFlags, MsgFlags, SockType, SockOpt, Mode, Whence, ProcSpec, Request}
+use Rattle.ux_model.specs.Types.{Cred, Fd, Name, Addr, OpenFlags, MsgFlags, PollFlags, PollFd, PollFds, SockType, SockOpt, Mode, Whence, ProcSpec, Request}
 use Rattle.ux_object.specs.declared.ObjKind.{ObjKind}
 use Rattle.ux_syntax.specs.declared.fault.Fault.{Fault}
 use Rattle.ux_syntax.specs.declared.fault.Fault.TheVariants.{BadLine, UnknownProcess, TooLong}
@@ -28,7 +28,7 @@ pub use Rattle.ux_syntax.specs.Digits.{◌>>=◌, is_plain, digit_at}
 unfoldable pub use Rattle.ux_syntax.specs.Digits.{number_at}
 use Rattle.ux_syntax.specs.Text.{plain_line}
 use Rattle.ux_syntax.specs.Spelling.{Plan, WrittenValue, WrittenRow, meant_row, bit}
-use Rattle.ux_syntax.specs.Spelling.{mode_text, type_text, option_text, whence_text, kind_text, is_meant, asks_fork, asks_recorded}
+use Rattle.ux_syntax.specs.Spelling.{mode_text, type_text, option_text, whence_text, waits_text, kind_text, is_meant, asks_fork, asks_recorded}
 use Rattle.ux_syntax.specs.Spelling.{known_count, line_limit}
 use Rattle.ux_syntax.specs.Turns.{has_exited, is_known, awaits_known}
 
@@ -79,6 +79,10 @@ mode_at w = chosen_at mode_text (Mode.Read ∷ Mode.Write ∷ Mode.Both ∷ []) 
 
 unfoldable pub whence_at : List ℕ → Result Whence Fault
 whence_at w = chosen_at whence_text (Whence.Set ∷ Whence.Cur ∷ Whence.End ∷ []) w
+
+-- whether a call waits
+unfoldable pub waits_at : List ℕ → Result Bool Fault
+waits_at w = chosen_at waits_text (false ∷ true ∷ []) w
 
 unfoldable pub kind_at : List ℕ → Result ObjKind Fault
 kind_at w = chosen_at kind_text (ObjKind.Memory ∷ ObjKind.Counter ∷ ObjKind.Pipe ∷ []) w
@@ -167,17 +171,17 @@ abbrev pub some_pairs_at : List ℕ → Result (List ℕ) Fault
 some_pairs_at [] = Err BadLine
 some_pairs_at (c ∷ cs) = pairs_at (c ∷ cs)
 
--- the numbers that these words spell
-abbrev pub each_number_at : List (List ℕ) → Result (List ℕ) Fault
-each_number_at [] = Ok []
-each_number_at (w ∷ ws) = do
-  number ← number_at w
-  numbers ← each_number_at ws
-  Ok (number ∷ numbers)
+-- the values that these words spell, which are all of one kind
+abbrev pub each_at : {A : Type 0} → (List ℕ → Result A Fault) → List (List ℕ) → Result (List A) Fault
+each_at kind [] = Ok []
+each_at kind (w ∷ ws) = do
+  x ← kind w
+  xs ← each_at kind ws
+  Ok (x ∷ xs)
 
 -- numbers joined by commas, one at least
 unfoldable pub numbers_at : List ℕ → Result (List ℕ) Fault
-numbers_at w = each_number_at (slice_split (λ b. b == 44) w)
+numbers_at w = each_at number_at (slice_split (λ b. b == 44) w)
 
 -- the flags whose letters of anx a word begins with, and what follows
 abbrev pub open_letters_at : List ℕ → OpenFlags × List ℕ
@@ -213,6 +217,16 @@ msg_flags_at (c ∷ cs) =
     if bytes_eq (c ∷ cs) dash then Ok (record { 0 = 0 }) else
     if length x.1 == 0 then Ok (record { 0 = bit_or (bit_or (bit_or d.0 p.0) t.0) x.0 }) else Err BadLine
 
+-- the conditions whose letters of ioh a word has, or a dash for none
+unfoldable pub events_at : List ℕ → Result PollFlags Fault
+events_at [] = Err BadLine
+events_at (c ∷ cs) =
+    let i = flag_at 105 1 (c ∷ cs) in
+    let o = flag_at 111 2 i.1 in
+    let h = flag_at 104 4 o.1 in
+    if bytes_eq (c ∷ cs) dash then Ok (record { 0 = 0 }) else
+    if length h.1 == 0 then Ok (record { 0 = bit_or (bit_or i.0 o.0) h.0 }) else Err BadLine
+
 -- ---- words
 
 -- a value of the first word, and the words after it
@@ -233,6 +247,14 @@ unfoldable pub cred_at : List ℕ → Result Cred Fault
 cred_at w =
     (number_at >> number_at >> number_at >> ends) (slice_split (λ b. b == 44) w)
     >>= λ x. Ok (record { pid = record { 0 = x.0 }; uid = x.1.0; gid = x.1.1.0 })
+
+-- a descriptor and what is asked for of it, joined by a colon
+unfoldable pub asked_at : List ℕ → Result PollFd Fault
+asked_at w = (fd_at >> events_at >> ends) (slice_split (λ b. b == 58) w) >>= λ x. Ok (record { fd = x.0; events = x.1.0 })
+
+-- descriptors joined by commas, or a dash for none
+unfoldable pub poll_fds_at : List ℕ → Result PollFds Fault
+poll_fds_at w = if bytes_eq w dash then Ok [] else each_at asked_at (slice_split (λ b. b == 44) w)
 
 -- descriptor numbers behind r:, or credentials behind c:
 unfoldable pub control_item_at : List ℕ → Result ControlItem Fault
@@ -295,6 +317,8 @@ value_at FieldKind.OpenFlags w = open_flags_at w
 value_at FieldKind.CounterFlags w = counter_flags_at w
 value_at FieldKind.MsgFlags w = msg_flags_at w
 value_at FieldKind.Control w = control_at w
+value_at FieldKind.PollFds w = poll_fds_at w
+value_at FieldKind.Waits w = waits_at w
 
 -- one word for each field
 abbrev pub values_at : (kinds : List FieldKind) → List (List ℕ) → Result (WrittenRow kinds) Fault

@@ -4,7 +4,7 @@ use Rattle.std.specs.Prelude.{replicate, map, filter, count_by, codes, decimal, 
 use Rattle.std.specs.Prelude.{not, slice_index_or}
 use Rattle.std.specs.List.{AllByRecursion, slice_split, join_with_byte}
 use Rattle.std.specs.Fmt.{signed_decimal}
-use Rattle.ux_model.specs.Types.{Cred, Addr, OpenFlags, MsgFlags, ProcSpec, Request}
+use Rattle.ux_model.specs.Types.{Cred, Addr, OpenFlags, MsgFlags, PollFlags, PollFd, PollFds, ProcSpec, Request}
 use Rattle.ux_fields.specs.declared.CallWord.{CallWord}
 use Rattle.ux_fields.specs.declared.FieldKind.{FieldKind}
 use Rattle.ux_fields.specs.Forms.{word_text, request_word, kinds, wants_serial, is_off_word}
@@ -22,6 +22,7 @@ use Rattle.ux_syntax.specs.declared.script.Act.{Act}
 use Rattle.ux_syntax.specs.Lines.{Line}
 use Rattle.ux_syntax.specs.declared.script.Script.{Script}
 pub use Rattle.ux_trace.specs.Echoes.{letter, or_dash, open_flags, counter_flags, msg_flags, type_text, option_text, mode_text, whence_text}
+pub use Rattle.ux_trace.specs.Echoes.{events_text, asked_text, poll_fds_text, waits_text}
 use Rattle.ux_syntax.specs.Text.{plain_line}
 use Rattle.ux_trace.specs.Trace.{dash, hex, path_text, addr_text, addr_or_dash, raw_text, rights_text, cred_text}
 
@@ -149,6 +150,8 @@ spelling FieldKind.OpenFlags flags = open_flags flags
 spelling FieldKind.CounterFlags flags = counter_flags flags
 spelling FieldKind.MsgFlags flags = msg_flags flags
 spelling FieldKind.Control word = control_text word
+spelling FieldKind.PollFds fds = poll_fds_text fds
+spelling FieldKind.Waits waits = waits_text waits
 
 abbrev pub spellings : (kinds : List FieldKind) → WrittenRow kinds → List (List ℕ)
 spellings [] row = []
@@ -236,6 +239,16 @@ FitsOpenFlags f = f.0 < 8
 abbrev pub FitsMsgFlags : MsgFlags → Type 0
 FitsMsgFlags f = f.0 < 16
 
+abbrev pub FitsEvents : PollFlags → Type 0
+FitsEvents f = f.0 < 8
+
+-- a descriptor, and what is asked for of it
+abbrev pub FitsPollFd : PollFd → Type 0
+FitsPollFd asked = IsNumber asked.fd.0 × FitsEvents asked.events
+
+abbrev pub FitsPollFds : PollFds → Type 0
+FitsPollFds fds = AllByRecursion FitsPollFd fds
+
 -- a number of so many bits beside its sign
 abbrev pub IsSigned : ℕ → ℤ → Type 0
 IsSigned bits (pos n) = n < 2 ^ bits
@@ -275,6 +288,7 @@ FitsField FieldKind.OpenFlags flags = FitsOpenFlags flags
 FitsField FieldKind.CounterFlags flags = FitsOpenFlags flags.1
 FitsField FieldKind.MsgFlags flags = FitsMsgFlags flags
 FitsField FieldKind.Control word = FitsControl word
+FitsField FieldKind.PollFds fds = FitsPollFds fds
 FitsField kind value = Unit {0}
 
 abbrev pub FitsFields : (kinds : List FieldKind) → WrittenRow kinds → Type 0

@@ -6,6 +6,7 @@ ghost use Rattle.ux_syntax.specs.Results.{IsAsRead};
 
 use crate::control::ControlWord;
 use crate::fault::{BAD, LineError};
+use crate::polling::Waits;
 use crate::row::row_of;
 use std::alloc::Global;
 use ux_fields::{CallWord, SCRIPT_WORDS};
@@ -49,6 +50,14 @@ fn send_of(alloc: Global, words: &[&[u8]]) -> Result<Request, LineError>
         control: ControlWord::into_buffer(control, alloc)?,
         flags,
     })
+}
+
+/// `polls FDS WAITS`.
+fn polls_of(alloc: Global, words: &[&[u8]]) -> Result<Request, LineError>
+    ensures { IsAsRead (λ r. r) result (args_at CallWord.Polls (map (λ w. w.now) words.now)) }
+{
+    let (fds, (Waits(waits), ())) = row_of(alloc, words)?;
+    Ok(Request::PollMany { fds, waits })
 }
 
 /// The pattern of a row of these values.
@@ -105,6 +114,7 @@ pub(crate) fn request_of(
         CallWord::Send => send_of(alloc, args),
         CallWord::Recv => call!(alloc, args, RecvMsg, fd, n, space, flags),
         CallWord::Poll => call!(alloc, args, Poll, fd),
+        CallWord::Polls => polls_of(alloc, args),
         CallWord::SetIds => call!(alloc, args, SetIds, uid, gid),
         CallWord::Fork => call!(alloc, args, Fork),
         CallWord::Exec => call!(alloc, args, Exec),

@@ -4,7 +4,7 @@ ghost use Rattle.std.specs.Prelude.{◌≡◌, ◌==◌, IfOk, OnOk, map};
 ghost use Rattle.std.specs.List.{slice_split};
 ghost use Rattle.ux_model.specs.Delivery.{control_bytes};
 ghost use Rattle.ux_syntax.specs.Spelling.{padded, control_buffer, ItemsAreSpelled};
-ghost use Rattle.ux_syntax.specs.Reading.{some_pairs_at, each_number_at, numbers_at, cred_at, control_item_at, alone, paired, control_items_at, control_at};
+ghost use Rattle.ux_syntax.specs.Reading.{some_pairs_at, each_at, number_at, numbers_at, cred_at, control_item_at, alone, paired, control_items_at, control_at};
 ghost use Rattle.ux_syntax.specs.Results.{IsAsRead};
 
 use crate::fault::{BAD, LineError};
@@ -129,14 +129,15 @@ fn some_pairs_of(alloc: Global, digits: &[u8]) -> Result<Vec<u8>, LineError>
     pairs_of(alloc, digits)
 }
 
-fn split_numbers<'a>(alloc: Global, text: &'a [u8]) -> Result<Vec<&'a [u8]>, AllocError>
+/// The words between commas.
+pub(crate) fn split_commas<'a>(alloc: Global, text: &'a [u8]) -> Result<Vec<&'a [u8]>, AllocError>
     ensures { IfOk result (λ words. map (λ w. w.now) words.items ≡ slice_split (λ b. b == 44) text.now) }
 {
     text.split(|b| *b == b',').collect(alloc)
 }
 
 fn each_number_of(alloc: Global, words: &[&[u8]]) -> Result<Numbers, LineError>
-    ensures { IsAsRead (λ numbers. numbers) result (each_number_at (map (λ w. w.now) words.now)) }
+    ensures { IsAsRead (λ numbers. numbers) result (each_at number_at (map (λ w. w.now) words.now)) }
 {
     let mut fds = Vec::new(alloc);
     for word in words {
@@ -151,7 +152,7 @@ fn each_number_of(alloc: Global, words: &[&[u8]]) -> Result<Numbers, LineError>
 fn numbers_of(alloc: Global, text: &[u8]) -> Result<Numbers, LineError>
     ensures { IsAsRead (λ numbers. numbers) result (numbers_at text.now) }
 {
-    let words = split_numbers(alloc, text)?;
+    let words = split_commas(alloc, text)?;
     each_number_of(alloc, &words)
 }
 
@@ -160,7 +161,7 @@ fn numbers_of(alloc: Global, text: &[u8]) -> Result<Numbers, LineError>
 fn cred_of(alloc: Global, text: &[u8]) -> Result<Cred, LineError>
     ensures { IsAsRead (λ cred. cred) result (cred_at text.now) }
 {
-    let words = split_numbers(alloc, text)?;
+    let words = split_commas(alloc, text)?;
     let (pid, (uid, (gid, ()))) = row_of(alloc, &words)?;
     Ok(Cred {
         pid: Pid(pid),

@@ -12,6 +12,7 @@ mod input;
 mod line_reader;
 mod paths;
 mod plain;
+mod polling;
 mod progress;
 mod reading;
 mod row;

@@ -329,7 +329,7 @@ fn read_text(alloc: Global, text: &[u8]) -> Result<Script, ScriptFault>
 /// `lseek FD OFFSET WHENCE`, `dup FD`, `dup2 FD FD`, `flags FD OFLAGS`, `close FD`, `unlink p:NAME`,
 /// `socket TYPE OFLAGS`, `pair TYPE OFLAGS`, `bind FD ADDR`, `listen FD BACKLOG`, `connect FD ADDR`,
 /// `accept FD OFLAGS`, `shut FD MODE`, `getopt FD OPTION`, `setopt FD OPTION N`, `sockname FD`, `peername FD`,
-/// `send FD ADDR HEX CONTROL MFLAGS`, `recv FD N SPACE MFLAGS`, `poll FD`, `fork`, `exec`, `exit`, or `wait PID N`,
+/// `send FD ADDR HEX CONTROL MFLAGS`, `recv FD N SPACE MFLAGS`, `poll FD`, `polls FDS WAITS`, `fork`, `exec`, `exit`, or `wait PID N`,
 /// which isn't a call: where processes are threads, the process continues when that one has N entries or more, or has
 /// exited. Each `fork` makes one more process, whose number is the next: it is known to the lines behind that line,
 /// as their own process and as one that is waited for, and to none before. Each process may fork in a
@@ -339,6 +339,7 @@ fn read_text(alloc: Global, text: &[u8]) -> Result<Script, ScriptFault>
 /// `pipe OFLAGS`, `dupfd FD MIN`, `getfl FD`, `inq FD`, `outq FD` and `setids UID GID` are calls, too.
 /// A line `off` may come last. A send's ADDR may be `-` for none; its CONTROL is `-` for no bytes, `x:HEX` for
 /// these, or items joined by `+`: `c:PID,UID,GID` for credentials and `r:N,N,..` for descriptor numbers.
+/// FDS is `FD:EVENTS,FD:EVENTS,..`, or `-` for no descriptor, where EVENTS is letters of `ioh`, or `-`, and WAITS `wait` or `now`.
 /// HEX may be text between quotation marks, with escapes of C, and SPACE `rights:N`, the space that N rights take.
 ///
 /// # Errors

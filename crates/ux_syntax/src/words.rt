@@ -167,7 +167,7 @@ impl Word for Bytes {
 }
 
 /// The value that stands beside a word in a table of words and values.
-fn value_of<T: Copy>(table: &[(&str, T)], word: &[u8]) -> Result<T, LineError>
+pub(crate) fn value_of<T: Copy>(table: &[(&str, T)], word: &[u8]) -> Result<T, LineError>
     ensures { IsAsRead (λ x. x) result (beside_at (map (λ row. (row.0.now, row.1)) table.now) word.now) }
 {
     match table.iter().find(|row| word == row.0.as_bytes()) {
@@ -276,7 +276,7 @@ fn letter_of(letter: u8, word: &[u8]) -> (bool, &[u8])
 }
 
 /// The bits of a flag if a word begins with its letter, else none, and what follows.
-fn flag_of(letter: u8, bits: u8, word: &[u8]) -> (u8, &[u8])
+pub(crate) fn flag_of(letter: u8, bits: u8, word: &[u8]) -> (u8, &[u8])
     ensures { (result.0, result.1.now) ≡ flag_at letter bits word.now }
 {
     let (is_set, rest) = letter_of(letter, word);

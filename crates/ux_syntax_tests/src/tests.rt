@@ -7,6 +7,7 @@ mod expectations;
 mod forks;
 mod making;
 mod options;
+mod polls;
 mod readers;
 mod scripts;
 mod sends;

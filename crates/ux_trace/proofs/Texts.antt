@@ -10,7 +10,8 @@ use Rattle.std.proofs.lemmas.List.{append-nil, map-append, take_more, map_more, 
 use Rattle.std.proofs.lemmas.Grind.{flat_map-append}
 use Rattle.std.proofs.lemmas.Fmt.{hex_byte}
 use Rattle.std.proofs.lemmas.Str.{encode_ascii}
-use Rattle.ux_trace.specs.Trace.{digit_pair, hex, stands, name_byte, name_text, set_names, spaced, closed_text}
+use Rattle.ux_model.specs.Types.{PollFlags}
+use Rattle.ux_trace.specs.Trace.{digit_pair, hex, stands, name_byte, name_text, set_names, spaced, closed_text, poll_flags_text, found_text}
 
 pub hex_is : (bs : List ℕ) → 0 < length bs → flat_map digit_pair bs ≡ hex bs
 hex_is [] h = absurd (omega arith)
@@ -78,7 +79,18 @@ pub name_skipped : (rows more : List (Bool × List ℕ)) (row : Bool × List ℕ
     set_names rows ≡ set_names more
 name_skipped rows more row e set = rw (e, set_names_more rows row, set) (sym (append-nil (set_names rows)))
 
--- ---- descriptor numbers, joined by commas
+-- the conditions of the next descriptor
+pub found_next : (found : List PollFlags) (i : ℕ) → i < length found →
+    found_text (take i found) ++ (32 ∷ poll_flags_text (get_or found i (record { 0 = 0 }))) ≡ found_text (take (i + 1) found)
+found_next found i lt = rw (take_more found i (record { 0 = 0 }) lt)
+    (flat_map_more (λ f. 32 ∷ poll_flags_text f) [] (take i found) (get_or found i (record { 0 = 0 })))
+
+-- ---- texts joined by commas
+
+-- one more text
+pub text_joined : (before after : List (List ℕ)) (text : List ℕ) → after ≡ before ++ text ∷ []
+    → (join_with_byte 44 before ++ (separator_of 44 before ++ text) ≡ join_with_byte 44 after) × (44 ∷ [] ≡ separator_of 44 after)
+text_joined before after text e = rw e (sym (join_more 44 before text), separator_of_more 44 before text)
 
 abbrev pub number_texts : {X : Type 0} → (X → ℕ) → List X → List (List ℕ)
 number_texts number xs = map decimal (map number xs)
@@ -93,7 +105,7 @@ rights_more number xs i d lt =
     let text = decimal (number (get_or xs i d)) in
     let step : number_texts number (take (i + 1) xs) ≡ before ++ text ∷ [] = ap (map decimal) (map_more number xs i d lt)
     ∙ map-append decimal (map number (take i xs)) (number (get_or xs i d) ∷ []) in
-    rw step (sym (join_more 44 before text), separator_of_more 44 before text)
+    text_joined before (number_texts number (take (i + 1) xs)) text step
 
 -- ---- a name
 

@@ -1,14 +1,14 @@
 -- The text of a run beside its script: a line for each entry, with the arguments of its call.
-use Rattle.std.specs.Prelude.{ℕ, Bool, false, List, [], ◌∷◌, ◌++◌, Option, Some, None, codes, map, decimal, if◌then◌else◌, ◌==◌, ◌&&◌, not, nat_le}
+use Rattle.std.specs.Prelude.{ℕ, Bool, true, false, List, [], ◌∷◌, ◌++◌, Option, Some, None, codes, map, decimal, if◌then◌else◌, ◌==◌, ◌&&◌, not, nat_le}
 use Rattle.std.specs.Fmt.{signed_decimal}
 use Rattle.std.specs.List.{flat_map}
 use Rattle.ux_fields.specs.Rows.{fields_of, FieldValue, fd_field, number_field, size_field, space_field, value_field, offset_field, backlog_field, path_field}
-use Rattle.ux_fields.specs.Rows.{bytes_field, addr_field, target_field, mode_field, whence_field, type_field, option_field, open_flags_field, counter_flags_field, msg_flags_field, control_field}
-use Rattle.ux_model.specs.Types.{OpenFlags, MsgFlags, SockType, SockOpt, Mode, Whence, Request, Entry}
+use Rattle.ux_fields.specs.Rows.{bytes_field, addr_field, target_field, mode_field, whence_field, type_field, option_field, open_flags_field, counter_flags_field, msg_flags_field, control_field, poll_fds_field, waits_field}
+use Rattle.ux_model.specs.Types.{OpenFlags, MsgFlags, PollFlags, PollFd, PollFds, SockType, SockOpt, Mode, Whence, Request, Entry}
 use Rattle.ux_model.specs.Control.{Control}
 use Rattle.ux_model.specs.ControlReading.{control_in}
 use Rattle.ux_model.specs.Flags.{has_bits}
-use Rattle.ux_trace.specs.Trace.{dash, digit_pair, path_text, addr_text}
+use Rattle.ux_trace.specs.Trace.{dash, digit_pair, path_text, addr_text, joined}
 use Rattle.ux_trace.specs.Trace.{addr_or_dash, parsed_control_text, reply_text, closed_text, word_text}
 use Rattle.ux_trace.specs.Trace.{request_word}
 
@@ -34,6 +34,23 @@ open_flags f = counter_flags (false, f)
 abbrev pub msg_flags : MsgFlags → List ℕ
 msg_flags f =
     or_dash (letter (has_bits f.0 4) 100 ++ (letter (has_bits f.0 1) 112 ++ (letter (has_bits f.0 2) 116 ++ letter (has_bits f.0 8) 120)))
+
+-- the letters of ioh whose conditions are asked for, or a dash: IN, OUT, RDHUP
+abbrev pub events_text : PollFlags → List ℕ
+events_text f = or_dash (letter (has_bits f.0 1) 105 ++ (letter (has_bits f.0 2) 111 ++ letter (has_bits f.0 4) 104))
+
+-- the number of a descriptor, a colon, and what is asked for
+abbrev pub asked_text : PollFd → List ℕ
+asked_text asked = decimal asked.fd.0 ++ (58 ∷ events_text asked.events)
+
+-- descriptors with what is asked for, joined by commas, or a dash where there is none
+abbrev pub poll_fds_text : PollFds → List ℕ
+poll_fds_text fds = joined 44 (map asked_text fds)
+
+-- whether a call waits
+abbrev pub waits_text : Bool → List ℕ
+waits_text true = codes "wait"
+waits_text false = codes "now"
 
 abbrev pub type_text : SockType → List ℕ
 type_text SockType.Stream = codes "stream"
@@ -98,6 +115,8 @@ telling read (open_flags_field it) = open_flags it
 telling read (counter_flags_field it) = counter_flags it
 telling read (msg_flags_field it) = msg_flags it
 telling read (control_field it) = parsed_control_text it read
+telling read (poll_fds_field it) = poll_fds_text it
+telling read (waits_field it) = waits_text it
 
 -- a comma and a blank, and a text
 abbrev pub after_comma : List ℕ → List ℕ

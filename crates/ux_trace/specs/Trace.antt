@@ -3,7 +3,7 @@ use Rattle.std.specs.Prelude.{ℕ, ◌+◌, ◌/◌, ◌%◌, Bool, false, List,
 use Rattle.std.specs.Prelude.{◌==◌, ◌&&◌, not, nat_le}
 use Rattle.std.specs.Fmt.{digit_glyph}
 use Rattle.std.specs.List.{flat_map, join_with_byte}
-use Rattle.ux_model.specs.Types.{Cred, Name, Addr, Errno, MsgFlags, OpenFlags, PollFlags, Reply, Entry}
+use Rattle.ux_model.specs.Types.{Cred, Name, Addr, Errno, MsgFlags, OpenFlags, PollFlags, Revents, Reply, Entry}
 use Rattle.ux_model.specs.Control.{Control}
 use Rattle.ux_model.specs.ControlReading.{control_in}
 use Rattle.ux_model.specs.Flags.{has_bits}
@@ -80,6 +80,10 @@ poll_rows f = (has_bits f.0 1, codes "IN") ∷ (has_bits f.0 2, codes "OUT") ∷
 
 abbrev pub poll_flags_text : PollFlags → List ℕ
 poll_flags_text f = flags_text (poll_rows f)
+
+-- those of each descriptor, each set after a blank
+abbrev pub found_text : Revents → List ℕ
+found_text found = flat_map (λ f. 32 ∷ poll_flags_text f) found
 
 -- the flags of a descriptor and of its description, in the order of a trace
 abbrev pub open_rows : OpenFlags → List (Bool × List ℕ)
@@ -170,6 +174,7 @@ reply_text (Reply.Addr name) = codes "addr " ++ addr_text name
 reply_text (Reply.Opt n) = codes "opt " ++ decimal n
 reply_text (Reply.Cred cred) = codes "cred " ++ (decimal cred.pid.0 ++ (codes " " ++ (decimal cred.uid ++ (codes " " ++ decimal cred.gid))))
 reply_text (Reply.Poll flags) = codes "poll " ++ poll_flags_text flags
+reply_text (Reply.Polled found) = codes "polled" ++ found_text found
 reply_text (Reply.Child pid) = codes "child " ++ decimal pid.0
 reply_text (Reply.Flags flags) = codes "flags " ++ open_flags_text flags
 reply_text (Reply.Err e) = codes "err " ++ errno_text e

@@ -6,6 +6,7 @@ ghost use Rattle.ux_fields.specs.Seen.{seen};
 ghost use Rattle.ux_trace.specs.Echoes.{after_comma, call_telling, call_text, is_shown, listed, quoted, telling};
 
 use crate::choices::{MessageLetters, OpenLetters, mode_word, option_word, type_word, whence_word};
+use crate::polling::{PollFdsText, waits_word};
 use crate::words::{AddrOrDash, AddrText, NameText, ParsedControl};
 use std::alloc::{AllocError, Global};
 use std::fmt;
@@ -92,6 +93,8 @@ impl fmt::Display for FieldText<'_> {
                 };
                 write!(f, "{control}")
             }
+            Field::PollFds(fds) => write!(f, "{}", PollFdsText(fds.as_slice())),
+            Field::Waits(waits) => write!(f, "{}", waits_word(waits)),
         }
     }
 }

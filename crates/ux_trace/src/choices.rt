@@ -55,7 +55,7 @@ pub fn option_word(opt: SockOpt) -> &'static str
 }
 
 /// A flag's letter where the flag is set, or nothing.
-fn letter(is_set: bool, name: &'static str) -> &'static str
+pub(crate) fn letter(is_set: bool, name: &'static str) -> &'static str
     ensures { result.now ≡ (if is_set then name.now else []) }
 {
     if is_set { name } else { "" }

@@ -5,6 +5,7 @@ mod arguments;
 mod choices;
 mod echo;
 mod entry;
+mod polling;
 mod reply;
 mod words;
 

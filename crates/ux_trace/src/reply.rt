@@ -3,6 +3,7 @@
 ghost use Rattle.std.specs.Prelude.{◌≡◌, IfOk, Some};
 ghost use Rattle.ux_trace.specs.Trace.{errno_text, reply_text, reply_reading};
 
+use crate::polling::FoundText;
 use crate::words::{
     AddrOrDash, AddrText, HexText, OpenFlagNames, ParsedControl, PollFlagNames, ReceivedFlags,
 };
@@ -99,6 +100,7 @@ impl fmt::Display for ReplyText<'_> {
             Reply::Opt(value) => write!(f, "opt {value}"),
             Reply::Cred(cred) => write!(f, "cred {} {} {}", cred.pid.0, cred.uid, cred.gid),
             Reply::Poll(flags) => write!(f, "poll {}", PollFlagNames(*flags)),
+            Reply::Polled(found) => write!(f, "polled{}", FoundText(found.as_slice())),
             Reply::Child(pid) => write!(f, "child {}", pid.0),
             Reply::Flags(flags) => write!(f, "flags {}", OpenFlagNames(*flags)),
             Reply::Err(errno) => write!(f, "err {}", errno_name(*errno)),

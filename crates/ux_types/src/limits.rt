@@ -66,3 +66,6 @@ pub const READ_LIMIT: usize = 1048576;
 
 /// The most bytes of a path and of an abstract name (sun_path of unix(7), without its NUL).
 pub const NAME_LIMIT: usize = 107;
+
+/// The most descriptors that one poll(2) asks of.
+pub const POLL_LIMIT: usize = 64;

@@ -2,7 +2,8 @@
 use super::files::{is_refused, is_whole};
 use super::{CALLER, Wrong, gives, refuses};
 use delortxa::{
-    Addr, Bytes, Calls, Errno, Fd, Message, Mode, MsgFlags, Name, OpenFlags, SockOpt, SockType,
+    Addr, Bytes, Calls, Errno, Fd, Message, Mode, MsgFlags, Name, OpenFlags, PollFd, PollFds,
+    PollFlags, Revents, SockOpt, SockType,
 };
 
 /// A socket that listens at a path, is 5; a connection to it is 6, and its other end 7.
@@ -24,12 +25,27 @@ pub(super) fn listen_at_a_path<C: Copy, P: Calls<C>>(p: &mut P, who: C) -> Resul
     refuses("accept", p.accept(who, Fd(6)), Errno::EINVAL)
 }
 
+/// Polls both ends of the connection for input, of which 7 has some.
+fn poll_both<C: Copy, P: Calls<C>>(p: &mut P, who: C) -> Result<(), Wrong> {
+    let alloc = p.allocator();
+    let events = PollFlags::IN;
+    let asked = [PollFd { fd: Fd(6), events }, PollFd { fd: Fd(7), events }];
+    let fds = PollFds::new(Vec::from_slice(alloc, &asked)?);
+    let mut wanted = Revents::new();
+    wanted.push(PollFlags(0));
+    wanted.push(PollFlags::IN);
+    gives("poll_many", p.poll_many(who, fds, true), wanted)?;
+    let many = PollFds::new(vec![in alloc; asked[0]; 65]?);
+    refuses("poll_many", p.poll_many(who, many, false), Errno::EINVAL)
+}
+
 /// Sends and receives, with the file of 0 as a right, which comes as 8.
 pub(super) fn talk<C: Copy, P: Calls<C>>(p: &mut P, who: C) -> Result<(), Wrong> {
     let alloc = p.allocator();
     gives("send", p.send(who, Fd(6), b"hi"), 2)?;
     refuses("send", p.send(who, Fd(5), b"hi"), Errno::ENOTCONN)?;
     let bytes = Bytes::from_slice(alloc, b"hi")?;
+    poll_both(p, who)?;
     gives("in_queue", p.in_queue(who, Fd(7)), 2)?;
     gives("out_queue", p.out_queue(who, Fd(6)), 2)?;
     gives("recv", p.recv(who, Fd(7), 64), plain(bytes))?;

@@ -39,6 +39,10 @@ const CALLS: &[(Asked, bool)] = &[
     // 9 isn't open.
     (Asked::Recv(9, 1, 0), false),
     (Asked::Accept(9, 0), false),
+    // The time limit of a poll alone says whether it waits.
+    (Asked::Polls(&[(0, 1)], true), true),
+    (Asked::Polls(&[(2, 1), (9, 0)], true), true),
+    (Asked::Polls(&[(0, 1)], false), false),
     // These never wait.
     (Asked::Poll(0), false),
     (Asked::Close(0), false),

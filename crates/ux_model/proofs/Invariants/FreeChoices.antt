@@ -1,12 +1,12 @@
 -- The two free choices: which calls never lack memory, and what a failure reports.
-use Rattle.std.proofs.Common.{◌≡◌, ◌⊎◌, inl, inr, ⊎_elim, ℕ, ◌+◌, ◌==◌, Bool, true, false, ◌&&◌, not, if◌then◌else◌, Option, Some}
+use Rattle.std.proofs.Common.{◌≡◌, ◌⊎◌, inl, inr, ⊎_elim, ℕ, ◌+◌, ◌==◌, Bool, true, false, ◌&&◌, not, if◌then◌else◌, Option, Some, length, map}
 use Rattle.std.proofs.Common.{None, refl, ap, sym, subst, ◌∙◌, arith, ◌||◌}
 use Rattle.std.specs.Prelude.{ℤ, pos, negsuc, ◌+ℤ◌, nat_lt, is_some, is_none}
 use Rattle.std.proofs.lemmas.Bool.{cases_eq, or_parts, false≢true}
 use Rattle.std.proofs.lemmas.List.{get_or-set_same, get_or-set_other}
-use Rattle.ux_model.specs.Types.{Errno, Fd, Cred, Name, SockOpt, Mode, OpenFlags, Whence, Request, Reply}
+use Rattle.ux_model.specs.Types.{Errno, Fd, PollFds, Cred, Name, SockOpt, Mode, OpenFlags, Whence, Request, Reply}
 use Rattle.ux_model.specs.Places.{place}
-use Rattle.ux_model.specs.Limits.{offset_limit}
+use Rattle.ux_model.specs.Limits.{offset_limit, poll_limit}
 use Rattle.ux_model.specs.Object.{View, is_memory, bytes_ahead, after_failure}
 use Rattle.ux_model.specs.Names.{named, is_valid_path, is_unnamed_addr}
 use Rattle.ux_model.specs.Socket.{Socket, is_stream, is_dgram, peer_of, tied_socket}
@@ -22,6 +22,7 @@ use Rattle.ux_model.specs.Naming.{unlink}
 use Rattle.ux_model.specs.Connecting.{listener_of, listen, shutdown}
 use Rattle.ux_model.specs.Options.{get_opt, tell_option, tell_cred, may_limit, set_opt}
 use Rattle.ux_model.specs.Readiness.{poll}
+use Rattle.ux_model.specs.Polling.{revents, some_ready, poll_many}
 use Rattle.ux_model.specs.Users.{no_id, may_become, set_ids}
 use Rattle.ux_model.specs.Forking.{exec}
 use Rattle.ux_model.specs.Closing.{close, exit, off}
@@ -121,6 +122,11 @@ poll_spares : (S : State) (p : ℕ) (fd : Fd) → IsSparing (poll S p fd)
 unfolding poll
 poll_spares S p fd = maybe IsSparing (descriptor_at S p fd) _ _ refl (λ e h. refl)
 
+poll_many_spares : (S : State) (p : ℕ) (fds : PollFds) (waits : Bool) → IsSparing (poll_many S p fds waits)
+unfolding poll_many
+poll_many_spares S p fds waits = either IsSparing (nat_lt poll_limit (length fds)) _ _ (λ b. refl)
+    (λ b. either IsSparing (waits && not (some_ready (map (revents S p) fds))) _ _ (λ c. refl) (λ c. refl))
+
 exit_spares : (S : State) (p : ℕ) → IsSparing (exit S p)
 unfolding exit
 exit_spares S p = maybe IsSparing (process_at S p) _ _ refl (λ P h. refl)
@@ -155,6 +161,7 @@ each_spares S p tag (Request.GetOpt fd opt) h = get_opt_spares S p fd opt
 each_spares S p tag (Request.SetOpt fd SockOpt.QueueLimit value) h = limit_spares S p fd value
 each_spares S p tag (Request.SetOpt fd opt value) h = absurd (cc h)
 each_spares S p tag (Request.Poll fd) h = poll_spares S p fd
+each_spares S p tag (Request.PollMany fds waits) h = poll_many_spares S p fds waits
 each_spares S p tag (Request.SetIds uid gid) h = ids_spare S p uid gid
 each_spares S p tag Request.Exec h = exec_spares S p
 each_spares S p tag Request.Exit h = exit_spares S p

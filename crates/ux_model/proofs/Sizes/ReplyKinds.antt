@@ -1,12 +1,12 @@
 -- Each reply is a refusal, or of the kind of its request. One lemma a call, and one line of `each_is`, at the end.
 use Rattle.std.proofs.Common.{◌≡◌, ℕ, Bool, true, not, ◌&&◌, ◌||◌, ◌==◌, if◌then◌else◌, List, length, min, Option, Some, None, Result, Ok}
-use Rattle.std.proofs.Common.{Err, refl, ap, ◌∙◌, []}
+use Rattle.std.proofs.Common.{Err, refl, ap, ◌∙◌, [], map}
 use Rattle.std.specs.Prelude.{nat_le, nat_lt, ℤ, pos, negsuc, ◌+ℤ◌, is_none, is_some, slice_get}
 use Rattle.ux_model.specs.Making.{next_object, object_table_full, with_made, with_path, open_made, make_object, create_file, make_pipe}
 use mathlib.Core.Bool.{or-true}
-use Rattle.ux_model.specs.Types.{Errno, Fd, Cred, Name, Addr, SockType, SockOpt, Mode, OpenFlags, MsgFlags, Whence, Request, Reply}
+use Rattle.ux_model.specs.Types.{Errno, Fd, PollFds, Cred, Name, Addr, SockType, SockOpt, Mode, OpenFlags, MsgFlags, Whence, Request, Reply}
 use Rattle.ux_model.specs.Places.{place}
-use Rattle.ux_model.specs.Limits.{made_limit, read_limit, offset_limit, record_bytes_limit}
+use Rattle.ux_model.specs.Limits.{made_limit, read_limit, offset_limit, record_bytes_limit, poll_limit}
 use Rattle.ux_model.specs.Flags.{asks_append, can_read, can_write, are_send_flags, are_receive_flags, no_flags}
 use Rattle.ux_model.specs.Object.{Body, View, ObjectError, would_block, full, invalid, read_body, write_body, is_memory, is_pipe}
 use Rattle.ux_model.specs.Object.{memory, counter, bytes_ahead}
@@ -40,13 +40,14 @@ use Rattle.ux_model.specs.Descriptors.{dup, dup2, dup_from, get_flags, set_flags
 use Rattle.ux_model.specs.QueueLengths.{in_queue, out_queue}
 use Rattle.ux_model.specs.Options.{tell_cred, tell_option, get_opt, pass_cred_on, may_limit, change_option, set_opt}
 use Rattle.ux_model.specs.Readiness.{poll}
+use Rattle.ux_model.specs.Polling.{revents, some_ready, poll_many}
 use Rattle.ux_model.specs.Users.{no_id, may_become, set_ids}
 use Rattle.ux_model.specs.Forking.{fork, exec}
 use Rattle.ux_model.specs.Closing.{close, exit, off}
 use Rattle.ux_model.specs.Step.{Step, outcome}
 use Rattle.ux_model.proofs.Changes.Walk.{either, maybe, by_target, by_path, by_queue, found, found_socket, found_named, found_peer}
 use Rattle.ux_model.specs.ReplyKinds.{is_done, is_fd, is_fds, is_count, is_bytes, is_offset, is_message, is_accepted, is_addr, is_value}
-use Rattle.ux_model.specs.ReplyKinds.{is_cred, is_ready, is_child, is_flags, is_refusal, option_kind, kind_of, RepliesAreOfTheirKind}
+use Rattle.ux_model.specs.ReplyKinds.{is_cred, is_ready, is_polled, is_child, is_flags, is_refusal, option_kind, kind_of, RepliesAreOfTheirKind}
 
 -- of an outcome's own reply
 abbrev pub Is : (Reply → Bool) → Outcome → Type 0
@@ -235,6 +236,11 @@ set_opt_is S p fd opt value = found_socket (Is is_done) S p fd _ refl refl (λ d
 poll_is : (S : State) (p : ℕ) (fd : Fd) → Is is_ready (poll S p fd)
 unfolding poll
 poll_is S p fd = maybe (Is is_ready) (descriptor_at S p fd) _ _ refl (λ e h. refl)
+
+poll_many_is : (S : State) (p : ℕ) (fds : PollFds) (waits : Bool) → Is is_polled (poll_many S p fds waits)
+unfolding poll_many
+poll_many_is S p fds waits = either (Is is_polled) (nat_lt poll_limit (length fds)) _ _ (λ b. refl)
+    (λ b. either (Is is_polled) (waits && not (some_ready (map (revents S p) fds))) _ _ (λ c. refl) (λ c. refl))
 
 -- ---- of sends
 
@@ -442,6 +448,7 @@ each_is S p tag (Request.GetPeerName fd) = peer_name_is S p fd
 each_is S p tag (Request.SendMsg fd addr bytes control flags) = send_is S p tag fd addr bytes control flags
 each_is S p tag (Request.RecvMsg fd n space flags) = recv_is S p fd n space flags
 each_is S p tag (Request.Poll fd) = poll_is S p fd
+each_is S p tag (Request.PollMany fds waits) = poll_many_is S p fds waits
 each_is S p tag (Request.SetIds uid gid) = ids_are_done S p uid gid
 each_is S p tag Request.Fork = fork_is S p
 each_is S p tag Request.Exec = exec_is S p

@@ -61,6 +61,7 @@ plain_fits (Reply.Addr addr) room h = absurd (cc h)
 plain_fits (Reply.Opt value) room h = nothing_fits room
 plain_fits (Reply.Cred cred) room h = nothing_fits room
 plain_fits (Reply.Poll flags) room h = nothing_fits room
+plain_fits (Reply.Polled found) room h = nothing_fits room
 plain_fits (Reply.Child pid) room h = nothing_fits room
 plain_fits (Reply.Flags flags) room h = nothing_fits room
 plain_fits (Reply.Err e) room h = nothing_fits room

@@ -1,8 +1,8 @@
 -- Of each call that asks: it leaves the state as it was, and reports no number. All laws on what calls leave follow for it.
-use Rattle.std.proofs.Common.{◌≡◌, ℕ, true, false, None, refl, ap, sym, subst}
-use Rattle.std.specs.Prelude.{is_some}
+use Rattle.std.proofs.Common.{◌≡◌, ℕ, Bool, true, false, not, ◌&&◌, length, map, None, refl, ap, sym, subst}
+use Rattle.std.specs.Prelude.{is_some, nat_lt}
 use Rattle.std.proofs.lemmas.Bool.{false≢true}
-use Rattle.ux_model.specs.Types.{Errno, Fd, Request, Reply}
+use Rattle.ux_model.specs.Types.{Errno, Fd, PollFds, Request, Reply}
 use Rattle.ux_model.specs.Places.{place}
 use Rattle.ux_model.specs.State.{State}
 use Rattle.ux_model.specs.Outcome.{Outcome, Chosen, own, lacking_memory, failing, refuse, descriptor_at}
@@ -12,7 +12,9 @@ use Rattle.ux_model.specs.QueueLengths.{in_queue, out_queue}
 use Rattle.ux_model.specs.Binding.{get_sock_name}
 use Rattle.ux_model.specs.Socket.{is_dgram}
 use Rattle.ux_model.specs.Connecting.{listener_of, get_peer_name}
+use Rattle.ux_model.specs.Limits.{poll_limit}
 use Rattle.ux_model.specs.Readiness.{poll}
+use Rattle.ux_model.specs.Polling.{revents, some_ready, poll_many}
 use Rattle.ux_model.specs.Step.{outcome}
 use Rattle.ux_model.specs.Asking.{asks}
 use Rattle.ux_model.specs.Invariants.{LeftByRefusal}
@@ -85,6 +87,12 @@ unfolding poll
 poll_asks S p fd = maybe (Asks S) (descriptor_at S p fd) _ _ (tells refl refl refl refl refl refl)
     (λ e h. tells refl refl refl refl refl refl)
 
+poll_many_asks : (S : State) (p : ℕ) (fds : PollFds) (waits : Bool) → Asks S (poll_many S p fds waits)
+unfolding poll_many
+poll_many_asks S p fds waits = either (Asks S) (nat_lt poll_limit (length fds)) _ _ (λ b. refuses refl refl)
+    (λ b. either (Asks S) (waits && not (some_ready (map (revents S p) fds))) _ _ (λ c. refuses refl refl)
+    (λ c. tells refl refl refl refl refl refl))
+
 pub each_asks : (S : State) (p tag : ℕ) (request : Request) → asks request ≡ true → Asks S (outcome S p tag request)
 unfolding outcome
 each_asks S p tag (Request.GetFlags fd) h = get_flags_asks S p fd
@@ -93,6 +101,7 @@ each_asks S p tag (Request.OutQueue fd) h = out_queue_asks S p fd
 each_asks S p tag (Request.GetSockName fd) h = sock_name_asks S p fd
 each_asks S p tag (Request.GetPeerName fd) h = peer_name_asks S p fd
 each_asks S p tag (Request.Poll fd) h = poll_asks S p fd
+each_asks S p tag (Request.PollMany fds waits) h = poll_many_asks S p fds waits
 each_asks S p tag request h = absurd (false≢true h)
 
 pub asking_plain : (request : Request) → asks request ≡ true → IsPlain request
@@ -102,6 +111,7 @@ asking_plain (Request.OutQueue fd) h = record { no_end = refl; keeps = λ n held
 asking_plain (Request.GetSockName fd) h = record { no_end = refl; keeps = λ n held. refl }
 asking_plain (Request.GetPeerName fd) h = record { no_end = refl; keeps = λ n held. refl }
 asking_plain (Request.Poll fd) h = record { no_end = refl; keeps = λ n held. refl }
+asking_plain (Request.PollMany fds waits) h = record { no_end = refl; keeps = λ n held. refl }
 asking_plain request h = absurd (false≢true h)
 
 -- ---- what follows

@@ -1,9 +1,9 @@
 use Rattle.std.proofs.Common.{rules, tests, ◌==◌}
 use Rattle.std.proofs.lemmas.Iterator.Consumers.{map_from_collect}
 use Rattle.std.proofs.lemmas.Iterator.Splits.{YieldsList-from_slice_split}
-use Rattle.ux_syntax.proofs.control.split_numbers.Goals as goal
+use Rattle.ux_syntax.proofs.polling.split_colons.Goals as goal
 
 pub returns : goal.returns
 returns c = map_from_collect _ c.collect.ensures.ran
-    (YieldsList-from_slice_split _ (λ b. b == 44) c.args.text.now c.split.ensures.rest c.split.ensures.done c.split.ensures.closure
+    (YieldsList-from_slice_split _ (λ b. b == 58) c.args.text.now c.split.ensures.rest c.split.ensures.done c.split.ensures.closure
     (λ x b q h. search (rules, tests)))
