@@ -197,7 +197,7 @@ leaves S U p tag d request reply chosen h = bool_cases (is_connect request)
     by_near b (stays e) = inr (inl (ap awaits_in e ∙ h))
     by_near b (reached r keeps) = inr (inl (keeps.2 b h))
     by_near b (new more keeps) = inr (inl (keeps.2 b h))
-    by_near b (dropped e) = inl e
+    by_near b (dropped off e) = inl e
 
 -- what goes at the end of a call
 still_awaits : (U T : State) (d : ℕ) (t : Socket) → Lost U T d → socket_at T d ≡ Some t → awaits_in (description_at U d) ≡ true →

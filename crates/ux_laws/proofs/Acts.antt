@@ -129,6 +129,10 @@ abbrev pub with_ends : State → OpenFlags → State
 with_ends S flags =
     with_new (with_new S (file_description (next_object S) Mode.Read flags)) (file_description (next_object S) Mode.Write flags)
 
+-- where a datagram socket is associated, if it is, is another one
+abbrev pub IsDatagrams : State → Option ℕ → Type 0
+IsDatagrams S target = (t : ℕ) → target ≡ Some t → (u : Socket) × (socket_at S t ≡ Some u) × (is_dgram u.kind ≡ true)
+
 -- What the call may leave, of which some goes at its end.
 pub data Did (S : State) (p tag : ℕ) (request : Request) (reply : Reply) (U : State) : Type 0 where
   quiet : Shrinks S U → MovesNothing S p request reply → Did S p tag request reply U
@@ -149,7 +153,7 @@ pub data Did (S : State) (p tag : ℕ) (request : Request) (reply : Reply) (U : 
       process_at S p ≡ Some P →
       find_socket S p fd ≡ Ok (d, s) → socket_at S d ≡ Some s → peer_of s.phase ≡ None →
       Shrinks (with_socket_by S d (with_listening limit (own_cred p P))) U → Did S p tag request reply U
-  tied_to : (d : ℕ) (target : Option ℕ) (s : Socket) → is_silent reply ≡ true → socket_at S d ≡ Some s →
+  tied_to : (d : ℕ) (target : Option ℕ) (s : Socket) → is_silent reply ≡ true → socket_at S d ≡ Some s → IsDatagrams S target →
       Shrinks (with_socket_by S d (with_association target)) U → Did S p tag request reply U
   connected : (fd : Fd) (addr : Addr) (P : Process) (d l : ℕ) (s other : Socket) (kept : Listener) → request ≡ Request.Connect fd addr →
       reply ≡ Reply.Ok → process_at S p ≡ Some P →
@@ -178,7 +182,7 @@ did_after S U T p tag request reply (one_made kind flags a b k) g = one_made kin
 did_after S U T p tag request reply (pair_made kind flags P x y a b c k) g = pair_made kind flags P x y a b c (shrunk_after _ U T k g)
 did_after S U T p tag request reply (listened fd backlog P d limit s a b c e f h k) g =
     listened fd backlog P d limit s a b c e f h (shrunk_after _ U T k g)
-did_after S U T p tag request reply (tied_to d target s a b k) g = tied_to d target s a b (shrunk_after _ U T k g)
+did_after S U T p tag request reply (tied_to d target s a b to k) g = tied_to d target s a b to (shrunk_after _ U T k g)
 did_after S U T p tag request reply (connected fd addr P d l s other kept a b c e f h i j m k) g =
     connected fd addr P d l s other kept a b c e f h i j m (shrunk_after _ U T k g)
 did_after S U T p tag request reply (put t m a k) g = put t m a (shrunk_after _ U T k g)

@@ -239,7 +239,7 @@ by_near : (S U : State) (p d : ℕ) (request : Request) (reply : Reply) → may_
 by_near S U p d request reply b h (stays e) = inr (inl (ap full_in e ∙ h))
 by_near S U p d request reply b h (reached r keeps) = inr (inl (keeps.4 b h))
 by_near S U p d request reply b h (new more keeps) = inr (inl (keeps.4 b h))
-by_near S U p d request reply b h (dropped e) = inl e
+by_near S U p d request reply b h (dropped off e) = inl e
 
 leaves : (S U : State) (p tag d : ℕ) (request : Request) (reply : Reply) → Chosen S (outcome S p tag request) reply U →
     full_in (description_at S d) ≡ true → (description_at U d ≡ None) ⊎ Leaves d S p request reply U
@@ -289,7 +289,7 @@ step_leaves S T p tag d request reply gone t step h there =
 -- ---- the laws
 
 -- an address that leads nowhere is no reason to wait
-nowhere_no_wait : (S : State) (kind : SockType) (addr : Addr) (e : Errno) → look_up S kind addr ≡ Err e →
+pub nowhere_no_wait : (S : State) (kind : SockType) (addr : Addr) (e : Errno) → look_up S kind addr ≡ Err e →
     Reply.Err e ≡ Reply.Err Errno.EAGAIN → ⊥
 nowhere_no_wait S kind addr e is h = by_addr addr is
   where

@@ -79,7 +79,7 @@ front_bytes wants n m ms =
 
 -- ---- a call
 
-given_no_count : (reply : Reply) → is_given reply ≡ true → taken_count reply ≡ 0
+pub given_no_count : (reply : Reply) → is_given reply ≡ true → taken_count reply ≡ 0
 given_no_count (Reply.Count n) h = absurd (false≢true h)
 given_no_count _ h = refl
 
@@ -117,8 +117,8 @@ part_bytes s m = go (is_stream s.kind)
     go true = take_again (stream_room s) m.bytes
     go false = take-length m.bytes
 
-flow_balance : (S T : State) (p tag : ℕ) (request : Request) (reply : Reply) (d : ℕ) → Flow S p tag request reply T → IsAt is_stream T d →
-    IsAt is_stream S d × Balance S T d p request reply
+pub flow_balance : (S T : State) (p tag : ℕ) (request : Request) (reply : Reply) (d : ℕ) → Flow S p tag request reply T →
+    IsAt is_stream T d → IsAt is_stream S d × Balance S T d p request reply
 flow_balance S T p tag request reply d (calm V c moves sh) at =
     let a = at_shrunk is_stream V T d sh at in
     (at_calm is_stream S V d c a.0, still_balance S T d p request reply (moves.bytes_out d) (moves.bytes_in d) (a.1 ∙ c.waiting d))

@@ -109,7 +109,7 @@ did_was S T p tag request reply d q (listened fd backlog P t limit s a b c e the
           absurd (cc clash),
     ))
     (λ old. was_itself S d q old) (seen_changed S t d (with_listening limit (own_cred p P)) q (seen_shrunk _ T d q k h))
-did_was S T p tag request reply d q (tied_to t target s a b k) h =
+did_was S T p tag request reply d q (tied_to t target s a b to k) h =
     was_changed S S t d (with_association target) q (λ s. refl) (λ s peer is. keeps_associated target s.phase peer is)
     (λ r g. was_itself S d r g) (seen_shrunk _ T d q k h)
 did_was S T p tag request reply d q (connected fd addr P t l s other kept a b c e there free led at is k) h = ⊎_elim {C = Was S d q}
@@ -215,7 +215,7 @@ did_there S T p tag request reply d (pair_made kind flags P x y a b c k) h =
     or_new S (with_new S one) two d (omega (arith, long)) (λ g. or_new S S one d (omega arith) (λ f. inl f) g) (there_shrunk _ T d k h)
 did_there S T p tag request reply d (listened fd backlog P t limit s a b c e f g k) h =
     inl (there_changed S t d (with_listening limit (own_cred p P)) (there_shrunk _ T d k h))
-did_there S T p tag request reply d (tied_to t target s a b k) h =
+did_there S T p tag request reply d (tied_to t target s a b to k) h =
     inl (there_changed S t d (with_association target) (there_shrunk _ T d k h))
 did_there S T p tag request reply d (connected fd addr P t l s other kept a b c e f g i j m k) h =
     let n : ℕ = next_description S in
@@ -331,7 +331,7 @@ ended_step S T p tag d request reply gone u t step e known there =
     by_near here (stays is) h = sym (ap reset_in is) ∙ h
     by_near here (reached r still) h = still.0 h
     by_near here (new more still) h = absurd (omega (arith, here, more))
-    by_near here (dropped is) h = absurd (false≢true (sym (ap reset_in is) ∙ h))
+    by_near here (dropped off is) h = absurd (false≢true (sym (ap reset_in is) ∙ h))
 
 -- ---- for ever
 
@@ -395,7 +395,7 @@ resets_are_of_losses boot es j d e s t legal at there left clear pending =
         by_near (stays is) h = sym (ap reset_in is) ∙ h
         by_near (reached r still) h = still.0 h
         by_near (new more still) h = still.0 h
-        by_near (dropped is) h = absurd (false≢true (sym (ap reset_in is) ∙ h))
+        by_near (dropped off is) h = absurd (false≢true (sym (ap reset_in is) ∙ h))
 
     by_lost : (U : State) → Lost U (before boot es (suc j)) d → NearAt (before boot es j) e.pid.0 e.request d (description_at U d) →
         HasEnded (before boot es (suc j)) d t ⊎ (is_dgram t.kind ≡ true)
@@ -452,7 +452,7 @@ finds_nobody S T p tag d request reply s through e did = by_did did
     by_did (one_made kind flags is a k) = silent_no_count reply a
     by_did (pair_made kind flags P x y a b c k) = ap is_count b
     by_did (listened fd backlog P t limit u a b c f g h k) = ap is_count b
-    by_did (tied_to t target u a b k) = silent_no_count reply a
+    by_did (tied_to t target u a b to k) = silent_no_count reply a
     by_did (connected fd addr P t l u other kept a b c f g h i j m k) = ap is_count b
     by_did (put t m a k) =
         let sender : Some (d, s) ≡ Some (a.end, a.socket) = sym through ∙ a.through in

@@ -151,7 +151,7 @@ flow_of S T p tag request reply (pair_made kind flags P x y a b c k) =
     calm _ (calm_after S one (with_new one two) (calm_new S _ refl) (calm_new one two refl)) (silent (ap is_silent b)) k
 flow_of S T p tag request reply (listened fd backlog P d limit s a b c e f h k) =
     calm _ (calm_change S d (with_listening limit (own_cred p P)) (λ s. refl) (λ s. refl)) (silent (ap is_silent b)) k
-flow_of S T p tag request reply (tied_to d target s a b k) =
+flow_of S T p tag request reply (tied_to d target s a b to k) =
     calm _ (calm_change S d (with_association target) (λ s. refl) (λ s. refl)) (silent a) k
 flow_of S T p tag request reply (connected fd addr P d l s other kept a b c e f h i j m k) =
     let e : ℕ = next_description S in

@@ -32,7 +32,7 @@ pub data Lost (S T : State) (d : ℕ) : Type 0 where
   -- by the loss of its peer, which was there
   reset : (r : LosesPeer S T d) → is_some (description_at S r.peer) ≡ true → Lost S T d
 
-or_none : (b : Bool) → (b || false) ≡ b
+pub or_none : (b : Bool) → (b || false) ≡ b
 or_none true = refl
 or_none false = refl
 
@@ -53,7 +53,7 @@ reset_by gone S (connected peer) h = let parts = and_parts (gone peer) (resets_p
     (peer, refl, parts.0, was_there (description_at S peer) parts.1)
 reset_by gone S (associated target) h = absurd (false≢true h)
 
-round_lost : (gone : ℕ → Bool) (S : State) (d : ℕ) → Lost S (without gone S) d
+pub round_lost : (gone : ℕ → Bool) (S : State) (d : ℕ) → Lost S (without gone S) d
 round_lost gone S d = go (gone d) refl (description_at S d) refl (description_at-without gone S d)
   where
     T : State
@@ -235,7 +235,7 @@ passed_left S T p request d w there = by_near (w.near.each d) (w.lost_then d)
     by_near (stays is) l = stayed is l
     by_near (reached r still) l = in_reach r
     by_near (new more still) l = absurd (there (none_beyond S.descriptions d more))
-    by_near (dropped is) l = freed (stays_gone U T d l is)
+    by_near (dropped off is) l = freed (stays_gone U T d l is)
 
 pub calls_leave_others_alone : CallsLeaveOthersAlone
 calls_leave_others_alone boot es j d e legal at there =

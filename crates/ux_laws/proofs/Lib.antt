@@ -20,6 +20,7 @@ pub mod Spent
 pub mod NoRights
 pub mod Near
 pub mod LeftAlone
+pub mod Aside
 pub mod OwnNames
 pub mod NamesLeft
 pub mod Bound
@@ -36,10 +37,19 @@ pub mod Progress
 pub mod Connections
 pub mod Sends
 pub mod Wakes
+pub mod FewRecords
+pub mod Associations
+pub mod MessageWaits
+pub mod RoomsCome
+pub mod PlacesCome
+pub mod GoingOn
+pub mod OrderedSends
 pub mod Rooms
 pub mod Writes
 pub mod FileReads
 pub mod FileWaits
+pub mod Polls
+pub mod PollWakes
 pub mod Offsets
 pub mod NewNames
 pub mod Openings
@@ -57,4 +67,9 @@ mod ReadExample
 mod FileWaitExample
 mod NameExample
 mod ReachExample
+mod ApartExample
+mod ChannelExample
 mod WaitExample
+mod RoomExample
+mod PollWakeExample
+mod MessageWaitExample

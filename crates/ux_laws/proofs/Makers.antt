@@ -314,7 +314,7 @@ did_met boot es e T d q all (listened fd backlog P t limit s asked answered here
   where
     S : State
     S = replay boot es
-did_met boot es e T d q all (tied_to t target s a b k) h =
+did_met boot es e T d q all (tied_to t target s a b to k) h =
     changed_met boot es e (replay boot es) T t d (with_association target) q all (λ s. refl) (λ s. same_listener target s.phase) k h
 did_met boot es e T d q all (connected fd addr P t l s other kept asked answered here found there free led at is k) h =
     ⊎_elim {C = Met boot es e d q} (λ w. client w.0 w.1 w.3)

@@ -67,7 +67,7 @@ did_make S U p tag d request reply q free did h = by_did did
     by_did (pair_made kind flags P x y is a c k) = pair kind flags is
     by_did (listened fd backlog P t limit s a b c e f g k) = ⊎_elim {C = MakesSocket request} (λ w. not_here w.1 w.2) not_old
         (seen_changed S t d _ q (seen_shrunk _ U d q k h))
-    by_did (tied_to t target s a b k) = ⊎_elim {C = MakesSocket request} (λ w. not_here w.1 w.2) not_old
+    by_did (tied_to t target s a b to k) = ⊎_elim {C = MakesSocket request} (λ w. not_here w.1 w.2) not_old
         (seen_changed S t d _ q (seen_shrunk _ U d q k h))
     by_did (connected fd addr P t l s other kept is a b c e f g i j k) = server fd addr is
     by_did (put t m a k) = ⊎_elim {C = MakesSocket request} (λ w. not_here w.1 w.2) not_old

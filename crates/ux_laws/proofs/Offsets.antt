@@ -184,7 +184,7 @@ chosen_append S U p tag k request reply whole chosen = bool_cases (may_set_flags
     by_near calm (stays e) = appends_same k (ap append_in e)
     by_near calm (reached r keeps) = kept (λ append h. keeps.5.appends calm append h)
     by_near calm (new more keeps) = kept (λ append h. keeps.5.appends calm append h)
-    by_near calm (dropped e) =
+    by_near calm (dropped off e) =
         record { told = λ old append h g. let clash : None ≡ Some append = sym (ap append_in e) ∙ g in absurd (cc clash) }
 
 -- what of a file's description is left at the end of a call
@@ -315,7 +315,7 @@ moves_near S U p k fd request calm near = by_near (near.each k)
     by_near (stays e) = moves_same k (ap offset_in e)
     by_near (reached r keeps) = moves_kept k (λ offset h. keeps.5.stands calm offset h)
     by_near (new more keeps) = moves_kept k (λ offset h. keeps.5.stands calm offset h)
-    by_near (dropped e) =
+    by_near (dropped off e) =
         record { told = λ old offset h g. let clash : None ≡ Some offset = sym (ap offset_in e) ∙ g in absurd (cc clash) }
 
 read_moves : (S : State) (p k : ℕ) (fd : Fd) (n : ℕ) → Moves S p fd k (description_at (read S p fd n).next k)
@@ -420,7 +420,7 @@ chosen_moves S U p tag k request reply chosen = bool_cases (may_move request) (�
     by_near calm (stays e) = same_offset (ap offset_in e)
     by_near calm (reached r keeps) = kept (λ offset h. keeps.5.stands calm offset h)
     by_near calm (new more keeps) = kept (λ offset h. keeps.5.stands calm offset h)
-    by_near calm (dropped e) =
+    by_near calm (dropped off e) =
         record { told = λ old offset h g. let clash : None ≡ Some offset = sym (ap offset_in e) ∙ g in absurd (cc clash) }
 
 pub offsets_stay : OffsetsStay

@@ -127,7 +127,7 @@ did_leads S T p tag request reply d x (pair_made kind flags P a b c e f k) h =
     inl (socket_leads S one d x refl (socket_leads (with_new S one) two d x refl (shrunk_leads _ T d x k h)))
 did_leads S T p tag request reply d x (listened fd backlog P t limit s a b c e f g k) h =
     inl (changed_leads S t d (with_listening limit (own_cred p P)) x (shrunk_leads _ T d x k h))
-did_leads S T p tag request reply d x (tied_to t target s a b k) h =
+did_leads S T p tag request reply d x (tied_to t target s a b to k) h =
     inl (changed_leads S t d (with_association target) x (shrunk_leads _ T d x k h))
 did_leads S T p tag request reply d x (connected fd addr P t l s other kept a b c e f g i j m k) h =
     let U : State = with_socket_by S l (awaiting (next_description S)) in
@@ -169,7 +169,8 @@ did_more S T p tag request reply (pair_made kind flags P a b c e f k) =
     more_left S _ T k (more_new S (with_new S one) two (more_new S S one (omega arith)))
 did_more S T p tag request reply (listened fd backlog P t limit s a b c e f g k) =
     more_left S _ T k (more_changed S S t (with_listening limit (own_cred p P)) (omega arith))
-did_more S T p tag request reply (tied_to t target s a b k) = more_left S _ T k (more_changed S S t (with_association target) (omega arith))
+did_more S T p tag request reply (tied_to t target s a b to k) =
+    more_left S _ T k (more_changed S S t (with_association target) (omega arith))
 did_more S T p tag request reply (connected fd addr P t l s other kept a b c e f g i j m k) =
     let U : State = with_socket_by S l (awaiting (next_description S)) in
     let D : Description = socket_description no_open_flags (server_end other t (own_cred p P)) in

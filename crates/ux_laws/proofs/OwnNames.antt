@@ -185,7 +185,7 @@ chosen_gives S U p tag k request reply chosen = bool_cases (may_name request) (�
     by_near calm (stays e) = given_same k (ap name_in e)
     by_near calm (reached r keeps) = kept (λ name h. keeps.5.named calm name h)
     by_near calm (new more keeps) = kept (λ name h. keeps.5.named calm name h)
-    by_near calm (dropped e) =
+    by_near calm (dropped off e) =
         record { told = λ old name h g. let clash : None ≡ Some name = sym (ap name_in e) ∙ g in absurd (cc clash) }
 
 -- ---- the laws

@@ -25,7 +25,7 @@ use Rattle.ux_laws.proofs.Flows.{at_shrunk, at_calm, at_changed, changed_waiting
 use Rattle.ux_laws.proofs.Gathers.{gathered_push}
 use Rattle.ux_laws.proofs.Delivering.{sends_there, receives_there}
 
-abbrev of_records : SockType → Bool
+abbrev pub of_records : SockType → Bool
 of_records kind = not (is_stream kind)
 
 no_stream : (b : Bool) → b ≡ true → not b ≡ true → ⊥

@@ -1,21 +1,19 @@
 -- Where the peer's queue has no room a write has to wait, and so has a plain send.
-use Rattle.std.proofs.Common.{◌≡◌, ℕ, suc, ◌==◌, Bool, true, false, not, ◌&&◌, ◌||◌, if◌then◌else◌, List, [], length, Option, Some, None, Result}
-use Rattle.std.proofs.Common.{◌+◌, Ok, Err, refl, ap, sym, ◌∙◌, subst, arith}
+use Rattle.std.proofs.Common.{◌≡◌, ℕ, suc, ◌==◌, Bool, true, false, not, ◌&&◌, ◌||◌, if◌then◌else◌, List, [], length, Option, Some, None}
+use Rattle.std.proofs.Common.{◌+◌, Ok, refl, ap, sym, ◌∙◌, subst, arith}
 use Rattle.std.specs.Prelude.{nat_le, nat_lt}
 use Rattle.std.proofs.lemmas.Bool.{not-true, leb-true, ltb-true, false_from_ne_true}
 use Rattle.ux_model.specs.Types.{Errno, Fd, MsgFlags, Request, Reply}
 use Rattle.ux_model.specs.Limits.{record_bytes_limit}
 use Rattle.ux_model.specs.Flags.{are_send_flags}
 use Rattle.ux_model.specs.Message.{Message}
-use Rattle.ux_model.specs.Control.{Control}
-use Rattle.ux_model.specs.ControlReading.{control_in}
-use Rattle.ux_model.specs.Socket.{Socket, is_stream, is_dgram, peer_of, has_room, sent_part, sent}
-use Rattle.ux_model.specs.Process.{Process, own_cred}
-use Rattle.ux_model.specs.State.{State, process_at, with_socket_by}
+use Rattle.ux_model.specs.Socket.{Socket, is_stream, is_dgram, peer_of}
+use Rattle.ux_model.specs.Process.{own_cred}
+use Rattle.ux_model.specs.State.{State}
 use Rattle.ux_model.specs.Flight.{in_flight}
-use Rattle.ux_model.specs.Outcome.{Outcome, refuse, answer, taking_memory, find_socket}
+use Rattle.ux_model.specs.Outcome.{Outcome, refuse, find_socket}
 use Rattle.ux_model.specs.Sending.{sending, message_of, flight_limit, is_over_limit, is_too_long, enqueue, send_to_peer, send_connected}
-use Rattle.ux_model.specs.Sending.{send_stream, send_datagram, send_from, send_with, send_read, reading_control, send_msg}
+use Rattle.ux_model.specs.Sending.{send_stream, send_datagram, send_from, reading_control, send_msg}
 use Rattle.ux_model.specs.Writing.{write}
 use Rattle.ux_model.specs.Step.{Step, outcome}
 use Rattle.ux_model.specs.Pedigree.{before}
@@ -24,8 +22,8 @@ use Rattle.ux_laws.specs.Talking.{socket_through}
 use Rattle.ux_laws.specs.Waits.{AwaitsRoom}
 use Rattle.ux_laws.specs.Progress.{may_go, WritesWaitWhile, SendsWaitWhile}
 use Rattle.ux_laws.proofs.Telling.{LeadsToSocket, socket_is_found, leads_to_socket, has_process, write_to_peer, chosen_refusal}
-use Rattle.ux_laws.proofs.SendWaits.{sends_wait, writes_wait}
-use Rattle.ux_laws.proofs.Sends.{nothing_spelled}
+use Rattle.ux_laws.proofs.SendWaits.{enqueue_again, sends_wait, writes_wait}
+use Rattle.ux_laws.proofs.OrderedSends.{not_over, message_in, ordered_send, plain_order}
 
 -- bytes that may go are neither none nor too many
 fits : (stream none few : Bool) (long : Bool) → (few ≡ true → long ≡ false) → (if stream then not none else few) ≡ true →
@@ -33,17 +31,14 @@ fits : (stream none few : Bool) (long : Bool) → (few ≡ true → long ≡ fal
 fits true none few long over h = (refl, not-true none h)
 fits false none few long over h = (over h, refl)
 
-to_full : (S : State) (limit : Option ℕ) (s : Socket) (m : Message) (a : AwaitsRoom S s) → may_go a.other.kind m.bytes ≡ true →
+pub to_full : (S : State) (limit : Option ℕ) (s : Socket) (m : Message) (a : AwaitsRoom S s) → may_go a.other.kind m.bytes ≡ true →
     is_over_limit S limit m ≡ false → send_to_peer S limit s.write_shut a.peer m ≡ refuse S Errno.EAGAIN
 to_full S limit s m a goes few =
     ap (λ (o : Option Socket). elim o as (λ _. Outcome) [ None ↦ refuse S Errno.EPIPE | Some other ↦ by_other other s.write_shut ]) a.there
     ∙ ap (by_other a.other) a.writes
     ∙ ap (λ b. if b then refuse S Errno.EPIPE else if is_too_long a.other m then refuse S Errno.EMSGSIZE else queues) a.reads
     ∙ ap (λ b. if b then refuse S Errno.EMSGSIZE else queues) parts.0
-    ∙ ap (λ b. if b then answer (Reply.Count 0) S else if is_over_limit S limit m then refuse S Errno.ETOOMANYREFS else
-    if not (has_room a.other) then refuse S Errno.EAGAIN else taken) parts.1
-    ∙ ap (λ b. if b then refuse S Errno.ETOOMANYREFS else if not (has_room a.other) then refuse S Errno.EAGAIN else taken) few
-    ∙ ap (λ b. if not b then refuse S Errno.EAGAIN else taken) a.full
+    ∙ enqueue_again S limit a.peer a.other m (record { some = parts.1; few = few; full = a.full })
   where
     by_other : Socket → Bool → Outcome
     by_other other shut = if shut || other.read_shut then refuse S Errno.EPIPE else
@@ -51,9 +46,6 @@ to_full S limit s m a goes few =
 
     queues : Outcome
     queues = enqueue S limit a.peer a.other m
-
-    taken : Outcome
-    taken = taking_memory (Reply.Count (length (sent_part a.other m).bytes)) (with_socket_by S a.peer (sent m))
 
     not_long : nat_le (length m.bytes) record_bytes_limit ≡ true → nat_lt record_bytes_limit (length m.bytes) ≡ false
     not_long h = false_from_ne_true (nat_lt record_bytes_limit (length m.bytes))
@@ -67,37 +59,13 @@ to_full S limit s m a goes few =
         (nat_lt record_bytes_limit (length m.bytes)) not_long goes
 
 -- what passes no right is over no limit
-no_right_over : (S : State) (limit : Option ℕ) (m : Message) → m.rights ≡ [] → is_over_limit S limit m ≡ false
+pub no_right_over : (S : State) (limit : Option ℕ) (m : Message) → m.rights ≡ [] → is_over_limit S limit m ≡ false
 no_right_over S None m none = refl
 no_right_over S (Some limit) m none = ap (λ (l : List ℕ). nat_lt 0 (length l) && nat_lt limit (in_flight S m.uid + length l)) none
 
--- a plain send comes to this
-plain_send : (S : State) (p tag d : ℕ) (fd : Fd) (bytes : List ℕ) (flags : MsgFlags) (s : Socket) (P : Process) →
-    process_at S p ≡ Some P → find_socket S p fd ≡ Ok (d, s) → are_send_flags flags ≡ true →
-    send_msg S p tag fd None bytes [] flags ≡ reading_control []
-    (send_from S (flight_limit P) d s None (message_of (sending tag p P None bytes) (own_cred p P) []))
-unfolding send_msg send_read send_with
-plain_send S p tag d fd bytes flags s P here found fine =
-    ap (λ (o : Option Process). elim o as (λ _. Outcome) [ None ↦ refuse S Errno.ESRCH | Some X ↦ by_number X (find_socket S p fd) ]) here
-    ∙ ap (by_number P) found
-    ∙ ap (λ b. if not b then refuse S Errno.EINVAL else reading_control [] (send_read S (sending tag p P None bytes) d s (control_in []))) fine
-    ∙ ap (λ (c : Option Control). reading_control [] (send_read S (sending tag p P None bytes) d s c)) nothing_spelled
-    ∙ ap (λ b. reading_control [] (if not b then refuse S Errno.EINVAL else
-    send_from S (flight_limit P) d s None (message_of (sending tag p P None bytes) (own_cred p P) []))) (sendable (is_stream s.kind))
-  where
-    by_number : Process → Result (ℕ × Socket) Errno → Outcome
-    by_number X r = elim r as (λ _. Outcome) [
-      | Err e ↦ refuse S e
-      | Ok w ↦ if not (are_send_flags flags) then refuse S Errno.EINVAL
-          else reading_control [] (send_read S (sending tag p X None bytes) w.0 w.1 (control_in []))
-    ]
-
-    sendable : (b : Bool) → (not false && not (b && (false && (length bytes == 0)))) ≡ true
-    sendable true = refl
-    sendable false = refl
-
 -- through a connected socket it is a send to the peer
-plain_to_peer : (S : State) (limit : Option ℕ) (d peer : ℕ) (s : Socket) (m : Message) → is_dgram s.kind ≡ false → peer_of s.phase ≡ Some peer →
+pub plain_to_peer : (S : State) (limit : Option ℕ) (d peer : ℕ) (s : Socket) (m : Message) → is_dgram s.kind ≡ false →
+    peer_of s.phase ≡ Some peer →
     send_from S limit d s None m ≡ send_to_peer S limit s.write_shut peer m
 plain_to_peer S limit d peer s m kind to =
     ap (λ b. if b then send_datagram S limit d s None m else send_stream S limit s.write_shut (peer_of s.phase) None m) kind
@@ -120,11 +88,12 @@ unfolding Step outcome
 step_send_again S T p tag d fd bytes flags s reply gone found fine kind a goes step =
     let l = leads_to_socket S p d fd s found in
     let P = has_process S p fd l.entry l.description l.found in
-    let m : Message = message_of (sending tag p P.0 None bytes) (own_cred p P.0) [] in
+    let o = plain_order S p s None bytes flags P.0 P.1 fine refl in
+    let m : Message = message_in tag o in
     chosen_refusal S step.0 (send_msg S p tag fd None bytes [] flags) Errno.EAGAIN reply
-    (plain_send S p tag d fd bytes flags s P.0 P.1 found fine
-    ∙ ap (reading_control []) (plain_to_peer S (flight_limit P.0) d a.peer s m kind a.to
-    ∙ to_full S (flight_limit P.0) s m a goes (no_right_over S (flight_limit P.0) m refl))) step.1
+    (ordered_send S p tag d fd None bytes [] flags s found o
+    ∙ ap (reading_control []) (plain_to_peer S (flight_limit o.process) d a.peer s m kind a.to
+    ∙ to_full S (flight_limit o.process) s m a goes (not_over S o.process m o.few_in_flight))) step.1
 
 pub writes_wait_while : WritesWaitWhile
 writes_wait_while boot es j d e fd bytes s legal at request through kind goes = (

@@ -1,25 +1,28 @@
 -- A wait to send to a peer ends by a receive there, a new limit of its queue, a shutdown or the loss of the peer, and by nothing else.
 use Rattle.std.proofs.Common.{◌≡◌, ◌⊎◌, ℕ, suc, ◌==◌, ◌-◌, Bool, true, false, not, ◌&&◌, ◌||◌, if◌then◌else◌, cond, is_some, List, []}
 use Rattle.std.proofs.Common.{length, Option, Some, None, Result, Ok, Err, option_map, refl, ap, sym, ◌∙◌, subst, inl, inr, ⊎_elim}
-use Rattle.std.specs.Prelude.{nat_lt}
-use Rattle.std.proofs.lemmas.Bool.{eqb-true, false≢true, or_parts}
+use Rattle.std.specs.Prelude.{nat_lt, nat_le}
+use Rattle.std.proofs.lemmas.Bool.{eqb-true, not-true, ltb-false, le-leb, false≢true, or_parts}
 use Rattle.ux_model.specs.Types.{Errno, Fd, Cred, Addr, SockType, SockOpt, MsgFlags, Request, Reply}
-use Rattle.ux_model.specs.Limits.{record_limit}
+use Rattle.ux_model.specs.Limits.{record_limit, record_bytes_limit}
 use Rattle.ux_model.specs.Flags.{are_send_flags}
 use Rattle.ux_model.specs.Message.{Message, same_cred, queued_bytes}
 use Rattle.ux_model.specs.Front.{front_of}
 use Rattle.ux_model.specs.Names.{is_unnamed_addr, free_name}
 use Rattle.ux_model.specs.Control.{Control}
 use Rattle.ux_model.specs.ControlReading.{control_in}
-use Rattle.ux_model.specs.Socket.{Socket, is_stream, is_dgram, peer_of, tied_socket, has_room, sent, with_queue, with_reset, with_passcred}
+use Rattle.ux_model.specs.Socket.{Socket, is_stream, is_dgram, peer_of, tied_socket, has_room, sent_part, sent, with_queue, with_reset}
+use Rattle.ux_model.specs.Socket.{with_passcred}
 use Rattle.ux_model.specs.Socket.{with_queue_limit}
 use Rattle.ux_model.specs.Description.{Description, Target, to_object, to_socket, socket_of, socket_in, changed, changed_target}
 use Rattle.ux_model.specs.Process.{Process, Descriptor, own_cred}
 use Rattle.ux_model.specs.State.{State, process_at, description_at, socket_at, is_live, table_of, with_socket_by}
-use Rattle.ux_model.specs.Outcome.{Outcome, Chosen, own, lacking_memory, failing, refuse, find_socket, as_process}
+use Rattle.ux_model.specs.Outcome.{Outcome, Chosen, own, lacking_memory, failing, refuse, answer, taking_memory, find_socket}
+use Rattle.ux_model.specs.Outcome.{as_process}
 use Rattle.ux_model.specs.Binding.{with_abstract, with_name}
 use Rattle.ux_model.specs.FileObjects.{on_object}
-use Rattle.ux_model.specs.Sending.{sending, message_of, flight_limit, is_over_limit, is_too_long, send_connected, send_stream, send_from}
+use Rattle.ux_model.specs.Sending.{sending, message_of, flight_limit, is_over_limit, is_too_long, enqueue, send_connected, send_stream}
+use Rattle.ux_model.specs.Sending.{send_from}
 use Rattle.ux_model.specs.Sending.{is_sendable_addr, is_sendable_control, sender_cred_refusal, sent_cred, send_as, send_with, send_read}
 use Rattle.ux_model.specs.Sending.{send_msg, write_socket, descriptions_behind}
 use Rattle.ux_model.specs.Writing.{write, write_object}
@@ -36,6 +39,7 @@ use Rattle.ux_laws.specs.Talking.{is_peek, socket_through, is_number, receives_t
 use Rattle.ux_laws.specs.Records.{is_given}
 use Rattle.ux_laws.specs.Credentials.{socket_behind}
 use Rattle.ux_laws.specs.Waits.{AwaitsRoom, SendsWait, WritesWait, GivesRoom, by_receive, by_limit, by_shut, by_end, SendWaitsEnd}
+use Rattle.ux_laws.specs.Progress.{may_go}
 use Rattle.ux_laws.proofs.Parts.{Glance, glance_socket, Shrinks}
 use Rattle.ux_laws.proofs.Acts.{Did}
 use Rattle.ux_laws.proofs.Doing.Calls.{step_between, step_did}
@@ -50,39 +54,82 @@ use Rattle.ux_laws.proofs.WaitEnds.{chosen_again, Elsewhere, by_shutting, flags_
 
 -- ---- which sends wait
 
-none_of : (b : Bool) → not b ≡ true → b ≡ false
-none_of true h = absurd (false≢true h)
-none_of false h = refl
+-- a message that finds a full queue
+pub record Fills (S : State) (limit : Option ℕ) (target : Socket) (m : Message) : Type 0 where
+  pub some : (is_stream target.kind && (length m.bytes == 0)) ≡ false
+  pub few : is_over_limit S limit m ≡ false
+  pub full : has_room target ≡ false
 
-from_waits : (S : State) (limit : Option ℕ) (d : ℕ) (s : Socket) (addr : Option Addr) (m : Message) → is_dgram s.kind ≡ false →
-    (send_from S limit d s addr m).reply ≡ Reply.Err Errno.EAGAIN → AwaitsRoom S s
-from_waits S limit d s addr m kind = either Q (is_dgram s.kind) _ _ (λ b h. absurd (false≢true (sym kind ∙ b))) (λ b. stream addr)
+pub enqueue_full : (S : State) (limit : Option ℕ) (t : ℕ) (target : Socket) (m : Message) →
+    (enqueue S limit t target m).reply ≡ Reply.Err Errno.EAGAIN → Fills S limit target m
+enqueue_full S limit t target m = either Q (is_stream target.kind && (length m.bytes == 0)) _ _ (λ b h. absurd (cc h))
+    (λ b. either Q (is_over_limit S limit m) _ _ (λ c h. absurd (cc h))
+    (λ c. either Q (not (has_room target)) _ _ (λ f h. record { some = b; few = c; full = not-true (has_room target) f })
+    (λ f h. absurd (cc h))))
   where
     Q : Outcome → Type 0
-    Q o = o.reply ≡ Reply.Err Errno.EAGAIN → AwaitsRoom S s
+    Q o = o.reply ≡ Reply.Err Errno.EAGAIN → Fills S limit target m
 
-    to_peer : (peer : Option ℕ) → peer_of s.phase ≡ peer → Q (send_connected S limit s.write_shut peer m)
-    to_peer None is = λ h. absurd (cc h)
-    to_peer (Some t) is = maybe Q (socket_at S t) _ _ (λ h. absurd (cc h))
+pub enqueue_again : (S : State) (limit : Option ℕ) (t : ℕ) (target : Socket) (m : Message) → Fills S limit target m →
+    enqueue S limit t target m ≡ refuse S Errno.EAGAIN
+enqueue_again S limit t target m f =
+    ap (λ b. if b then answer (Reply.Count 0) S else if is_over_limit S limit m then refuse S Errno.ETOOMANYREFS else
+    if not (has_room target) then refuse S Errno.EAGAIN else taken) f.some
+    ∙ ap (λ b. if b then refuse S Errno.ETOOMANYREFS else if not (has_room target) then refuse S Errno.EAGAIN else taken) f.few
+    ∙ ap (λ b. if not b then refuse S Errno.EAGAIN else taken) f.full
+  where
+    taken : Outcome
+    taken = taking_memory (Reply.Count (length (sent_part target m).bytes)) (with_socket_by S t (sent m))
+
+-- what a send to the peer of a socket finds there
+pub record PeerIsFull (S : State) (limit : Option ℕ) (s : Socket) (addr : Option Addr) (m : Message) : Type 0 where
+  pub plain : addr ≡ None
+  pub awaits : AwaitsRoom S s
+  pub goes : may_go awaits.other.kind m.bytes ≡ true
+  pub few : is_over_limit S limit m ≡ false
+
+-- bytes that aren't too many, of a record, or none, of a stream
+some_go : (kind : SockType) (bytes : List ℕ) → (not (is_stream kind) && nat_lt record_bytes_limit (length bytes)) ≡ false →
+    (is_stream kind && (length bytes == 0)) ≡ false → may_go kind bytes ≡ true
+some_go kind bytes long none = by_kind (is_stream kind) long none
+  where
+    by_kind : (b : Bool) → (not b && nat_lt record_bytes_limit (length bytes)) ≡ false → (b && (length bytes == 0)) ≡ false →
+        (if b then not (length bytes == 0) else nat_le (length bytes) record_bytes_limit) ≡ true
+    by_kind true long none = ap (λ c. not c) none
+    by_kind false long none = le-leb (length bytes) record_bytes_limit (ltb-false record_bytes_limit (length bytes) long)
+
+pub from_waits : (S : State) (limit : Option ℕ) (d : ℕ) (s : Socket) (addr : Option Addr) (m : Message) → is_dgram s.kind ≡ false →
+    (send_from S limit d s addr m).reply ≡ Reply.Err Errno.EAGAIN → PeerIsFull S limit s addr m
+from_waits S limit d s addr m kind = either Q (is_dgram s.kind) _ _ (λ b h. absurd (false≢true (sym kind ∙ b))) (λ b. stream addr refl)
+  where
+    Q : Outcome → Type 0
+    Q o = o.reply ≡ Reply.Err Errno.EAGAIN → PeerIsFull S limit s addr m
+
+    to_peer : addr ≡ None → (peer : Option ℕ) → peer_of s.phase ≡ peer → Q (send_connected S limit s.write_shut peer m)
+    to_peer plain None is = λ h. absurd (cc h)
+    to_peer plain (Some t) is = maybe Q (socket_at S t) _ _ (λ h. absurd (cc h))
         (λ other there. either Q (s.write_shut || other.read_shut) _ _ (λ b h. absurd (cc h))
         (λ b. either Q (is_too_long other m) _ _ (λ c h. absurd (cc h))
-        (λ c. either Q (is_stream other.kind && (length m.bytes == 0)) _ _ (λ e h. absurd (cc h))
-        (λ e. either Q (is_over_limit S limit m) _ _ (λ f h. absurd (cc h))
-        (λ f. either Q (not (has_room other)) _ _
-        (λ full h. let parts = or_parts s.write_shut other.read_shut b in
-        record { peer = t; other = other; to = is; there = there; full = none_of (has_room other) full; writes = parts.0; reads = parts.1 })
-        (λ g h. absurd (cc h)))))))
+        (λ c h.
+        let f = enqueue_full S limit t other m h in
+        let parts = or_parts s.write_shut other.read_shut b in
+        record {
+          plain = plain;
+          awaits = record { peer = t; other = other; to = is; there = there; full = f.full; writes = parts.0; reads = parts.1 };
+          goes = some_go other.kind m.bytes c f.some;
+          few = f.few;
+        })))
 
-    stream : (a : Option Addr) → Q (send_stream S limit s.write_shut (peer_of s.phase) a m)
-    stream None = to_peer (peer_of s.phase) refl
-    stream (Some a) = λ h. absurd (refused (is_some (peer_of s.phase)) h)
+    stream : (a : Option Addr) → addr ≡ a → Q (send_stream S limit s.write_shut (peer_of s.phase) a m)
+    stream None plain = to_peer plain (peer_of s.phase) refl
+    stream (Some a) plain = λ h. absurd (refused (is_some (peer_of s.phase)) h)
       where
         refused : (b : Bool) → Reply.Err (if b then Errno.EISCONN else Errno.EOPNOTSUPP) ≡ Reply.Err Errno.EAGAIN → ⊥
         refused true h = cc h
         refused false h = cc h
 
 -- a refusal of credentials is none to wait
-given_no_wait : (S : State) (p : ℕ) (P : Process) (given : Option Cred) (e : Errno) → sender_cred_refusal S p P given ≡ Some e →
+pub given_no_wait : (S : State) (p : ℕ) (P : Process) (given : Option Cred) (e : Errno) → sender_cred_refusal S p P given ≡ Some e →
     Reply.Err e ≡ Reply.Err Errno.EAGAIN → ⊥
 given_no_wait S p P None e is h = cc is
 given_no_wait S p P (Some c) e is h = by_kind P.privileged (is_live S c.pid.0) (same_cred c (own_cred p P)) is
@@ -123,7 +170,8 @@ send_waits S p tag d fd addr bytes control flags s found kind = maybe Q (process
         ])
         go (Some e) is = λ h. absurd (given_no_wait S p P given e is h)
         go None is = either Q (not (is_sendable_addr addr)) _ _ (λ b h. absurd (cc h))
-            (λ b. from_waits S (flight_limit P) d s addr (message_of (sending tag p P addr bytes) (sent_cred p P given) rights) kind)
+            (λ b h. (from_waits S (flight_limit P) d s addr (message_of (sending tag p P addr bytes) (sent_cred p P given) rights) kind
+            h).awaits)
 
     by_control : (P : Process) (o : Option Control) → Q (send_read S (sending tag p P addr bytes) d s o)
     by_control P None = λ h. absurd (cc h)
@@ -149,8 +197,8 @@ write_waits S p tag d fd bytes s l kind h = by_process (sym (ap (λ (o : Outcome
     by_process : (as_process S p (λ Q. write_socket S (sending tag p Q None bytes) l.entry.description s)).reply ≡ Reply.Err Errno.EAGAIN →
         AwaitsRoom S s
     by_process = maybe (λ o. o.reply ≡ Reply.Err Errno.EAGAIN → AwaitsRoom S s) (process_at S p) _ _ (λ g. absurd (cc g))
-        (λ P here. from_waits S (flight_limit P) l.entry.description s None (message_of (sending tag p P None bytes) (own_cred p P) [])
-        kind)
+        (λ P here g. (from_waits S (flight_limit P) l.entry.description s None
+        (message_of (sending tag p P None bytes) (own_cred p P) []) kind g).awaits)
 
 step_send_waits : (S T : State) (p tag d : ℕ) (fd : Fd) (addr : Option Addr) (bytes control : List ℕ) (flags : MsgFlags) (s : Socket)
     (reply : Reply) (gone : List ℕ) → find_socket S p fd ≡ Ok (d, s) → is_dgram s.kind ≡ false →
@@ -241,7 +289,7 @@ set_opt_limit S p k fd opt value elsewhere = by_socket Q S p fd _ (λ e. refl) (
         ∙ ap (λ x. cond x (option_map (changed (with_queue_limit value)) (description_at S k)) (description_at S k)) apart)))
 
 -- of the calls that set no limit of this socket's queue
-abbrev NoLimit : State → ℕ → ℕ → Request → Type 0
+abbrev pub NoLimit : State → ℕ → ℕ → Request → Type 0
 NoLimit S p k request = (fd : Fd) (value : ℕ) → request ≡ Request.SetOpt fd SockOpt.QueueLimit value →
     is_number k (socket_behind S p fd) ≡ false
 
@@ -261,7 +309,7 @@ is_one : (request : Request) → sets_option request ≡ true →
 is_one (Request.SetOpt fd opt value) h = (fd, opt, value, refl)
 is_one request h = absurd (false≢true h)
 
-limit_kept : (S T : State) (p tag k : ℕ) (request : Request) (reply : Reply) (gone : List ℕ) (u v : Socket) →
+pub limit_kept : (S T : State) (p tag k : ℕ) (request : Request) (reply : Reply) (gone : List ℕ) (u v : Socket) →
     Step S p tag request reply gone T → NoLimit S p k request → socket_at S k ≡ Some u → socket_at T k ≡ Some v →
     v.queue_limit ≡ u.queue_limit
 limit_kept S T p tag k request reply gone u v step none here there = sym (limit_is T k v there)
@@ -275,7 +323,7 @@ limit_kept S T p tag k request reply gone u v step none here there = sym (limit_
     by_near U (stays e) other here = ap limit_in e
     by_near U (reached r keeps) other here = keeps.3 other
     by_near U (new more keeps) other here = keeps.3 other
-    by_near U (dropped e) other here = absurd (false≢true (sym (ap is_some e) ∙ here))
+    by_near U (dropped off e) other here = absurd (false≢true (sym (ap is_some e) ∙ here))
 
     set_one : (U : State) (r : Request) → request ≡ r → (fd : Fd) (opt : SockOpt) (value : ℕ) → r ≡ Request.SetOpt fd opt value →
         Chosen S (outcome S p tag request) reply U → limit_in (description_at U k) ≡ limit_in (description_at S k)

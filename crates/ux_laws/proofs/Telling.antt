@@ -16,7 +16,7 @@ use Rattle.ux_model.specs.State.{State, process_at, description_at, socket_at, w
 use Rattle.ux_model.specs.Outcome.{Outcome, Chosen, own, lacking_memory, failing, refuse, answer, find_description, find_socket, as_process}
 use Rattle.ux_model.specs.Release.{settled}
 use Rattle.ux_model.specs.Sending.{sending, message_of, flight_limit, send_connected, send_stream, send_datagram, write_socket, is_too_long}
-use Rattle.ux_model.specs.Sending.{send_to_peer, enqueue}
+use Rattle.ux_model.specs.Sending.{send_to_peer, enqueue, send_from}
 use Rattle.ux_model.specs.FileObjects.{on_object}
 use Rattle.ux_model.specs.Receiving.{Incoming, incoming, receive_front, nothing_received, at_end, receive_nothing, receive_connected}
 use Rattle.ux_model.specs.Receiving.{receive_from_peer, receive_datagram, receive, recv_msg, bytes_alone, read_socket}
@@ -96,13 +96,12 @@ has_process S p fd e D h = go (process_at S p) refl h
 
 -- ---- a write
 
--- through a connected socket it is a send to the peer
-pub write_to_peer : (S : State) (p tag d peer : ℕ) (fd : Fd) (bytes : List ℕ) (s : Socket) → LeadsToSocket S p fd d s →
-    is_dgram s.kind ≡ false → peer_of s.phase ≡ Some peer →
-    (P : Process) × (process_at S p ≡ Some P) × (write S p tag fd bytes ≡ send_to_peer S (flight_limit P) s.write_shut peer
+-- it is a send through the socket, without an address
+pub write_from : (S : State) (p tag d : ℕ) (fd : Fd) (bytes : List ℕ) (s : Socket) → LeadsToSocket S p fd d s →
+    (P : Process) × (process_at S p ≡ Some P) × (write S p tag fd bytes ≡ send_from S (flight_limit P) d s None
     (message_of (sending tag p P None bytes) (own_cred p P) []))
 unfolding write
-write_to_peer S p tag d peer fd bytes s l kind to =
+write_from S p tag d fd bytes s l =
     let P = has_process S p fd l.entry l.description l.found in (
       P.0,
       P.1,
@@ -111,19 +110,30 @@ write_to_peer S p tag d peer fd bytes s l kind to =
           ∙ ap (λ (t : Target). by_target l.entry l.description t) l.leads
           ∙ ap (λ (o : Option Process). elim o as (λ _. Outcome)
           [ None ↦ refuse S Errno.ESRCH | Some Q ↦ write_socket S (sending tag p Q None bytes) l.entry.description s ]) P.1
-          ∙ ap (λ b. if b then send_datagram S (flight_limit P.0) l.entry.description s None (m P.0)
-          else send_stream S (flight_limit P.0) s.write_shut (peer_of s.phase) None (m P.0)) kind
-          ∙ ap (λ (o : Option ℕ). send_connected S (flight_limit P.0) s.write_shut o (m P.0)) to,
+          ∙ ap (λ (i : ℕ). write_socket S (sending tag p P.0 None bytes) i s) l.number,
     )
   where
-    m : Process → Message
-    m P = message_of (sending tag p P None bytes) (own_cred p P) []
-
     by_target : Descriptor → Description → Target → Outcome
     by_target x D t = elim t as (λ _. Outcome) [
       | to_object o ↦ on_object S o (λ view. write_object S x.description D o view bytes)
       | to_socket u ↦ as_process S p (λ Q. write_socket S (sending tag p Q None bytes) x.description u)
     ]
+
+-- and of a connected one to the peer
+pub write_to_peer : (S : State) (p tag d peer : ℕ) (fd : Fd) (bytes : List ℕ) (s : Socket) → LeadsToSocket S p fd d s →
+    is_dgram s.kind ≡ false → peer_of s.phase ≡ Some peer →
+    (P : Process) × (process_at S p ≡ Some P) × (write S p tag fd bytes ≡ send_to_peer S (flight_limit P) s.write_shut peer
+    (message_of (sending tag p P None bytes) (own_cred p P) []))
+write_to_peer S p tag d peer fd bytes s l kind to =
+    let w = write_from S p tag d fd bytes s l in
+    let m : Message = message_of (sending tag p w.0 None bytes) (own_cred p w.0) [] in (
+      w.0,
+      w.1,
+      w.2
+          ∙ ap (λ b. if b then send_datagram S (flight_limit w.0) d s None m
+          else send_stream S (flight_limit w.0) s.write_shut (peer_of s.phase) None m) kind
+          ∙ ap (λ (o : Option ℕ). send_connected S (flight_limit w.0) s.write_shut o m) to,
+    )
 
 -- and breaks the pipe where that is gone
 write_broken : (S : State) (p tag d : ℕ) (fd : Fd) (bytes : List ℕ) (s : Socket) → LeadsToSocket S p fd d s → HasEnded S d s →

@@ -81,7 +81,7 @@ chosen_again S T o reply (lacking_memory e may f) h = let clash : Reply.Err Errn
     absurd (cc clash)
 chosen_again S T o reply (failing e f) h = let clash : Reply.Err Errno.EIO ≡ Reply.Err Errno.EAGAIN = sym e ∙ h in absurd (cc clash)
 
-recv_waits : (S : State) (p n space d : ℕ) (fd : Fd) (flags : MsgFlags) (s : Socket) → find_socket S p fd ≡ Ok (d, s) →
+pub recv_waits : (S : State) (p n space d : ℕ) (fd : Fd) (flags : MsgFlags) (s : Socket) → find_socket S p fd ≡ Ok (d, s) →
     (recv_msg S p fd n space flags).reply ≡ Reply.Err Errno.EAGAIN → IsWaiting S d s
 unfolding recv_msg
 recv_waits S p n space d fd flags s found h =
@@ -205,7 +205,7 @@ shut_kept S U T p tag k request reply chosen is elsewhere there = by_lost (subst
     by_near (stays e) other here = ap shut_in e
     by_near (reached r keeps) other here = keeps.1 other
     by_near (new more keeps) other here = keeps.1 other
-    by_near (dropped e) other here = absurd (false≢true (sym (ap is_some e) ∙ here))
+    by_near (dropped off e) other here = absurd (false≢true (sym (ap is_some e) ∙ here))
 
     before_end : is_some (description_at U k) ≡ true → shut_in (description_at U k) ≡ shut_in (description_at S k)
     before_end here = bool_cases (is_shutdown request)
@@ -340,7 +340,7 @@ waits_end boot es j d e s t legal at here waiting there = by_waiting waiting
         by_near (stays e) h = sym (ap reset_in e) ∙ h
         by_near (reached r keeps) h = keeps.0 h
         by_near (new more keeps) h = keeps.0 h
-        by_near (dropped e) h = absurd (false≢true (sym (ap reset_in e) ∙ h))
+        by_near (dropped off e) h = absurd (false≢true (sym (ap reset_in e) ∙ h))
 
         by_lost : (U : State) → Chosen S (outcome S e.pid.0 j e.request) e.reply U → Did S e.pid.0 j e.request e.reply U → Lost U T d →
             description_at T peer ≡ None

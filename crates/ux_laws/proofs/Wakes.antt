@@ -1,10 +1,10 @@
 -- What sends, shutdowns, losses and connects bring to who waits for it, and that a wait is for just that.
 use Rattle.std.proofs.Common.{◌≡◌, ◌≢◌, ◌⊎◌, ℕ, suc, ◌<◌, ◌==◌, Bool, true, false, not, ◌||◌, cond, is_some, List, [], ◌∷◌}
 use Rattle.std.proofs.Common.{◌++◌, length, take, Option, Some, None, Result, Ok, Err, option_map, refl, ap, sym, ◌∙◌, subst, inl, inr, ⊎_elim}
-use Rattle.std.proofs.Common.{arith}
+use Rattle.std.proofs.Common.{slice_get, arith}
 use Rattle.std.specs.Prelude.{is_none, nat_le}
 use Rattle.std.proofs.lemmas.Bool.{eqb-true, eqb-false, false≢true, or_right}
-use Rattle.ux_model.specs.Types.{Errno, Fd, Cred, Addr, Mode, Request, Reply}
+use Rattle.ux_model.specs.Types.{Errno, Fd, Cred, Addr, Mode, Request, Reply, Entry}
 use Rattle.ux_model.specs.Flags.{can_read, can_write}
 use Rattle.ux_model.specs.Names.{is_valid_addr, is_unnamed_addr}
 use Rattle.ux_model.specs.Message.{Message}
@@ -20,6 +20,7 @@ use Rattle.ux_model.specs.Pairing.{socket_description}
 use Rattle.ux_model.specs.Connecting.{Listener, listener_of, connect_to, connect_stream, connect, server_end, tied as tied_by, no_open_flags, shutdown}
 use Rattle.ux_model.specs.ReadyCalls.{moves_data}
 use Rattle.ux_model.specs.Step.{Step, outcome}
+use Rattle.ux_model.specs.History.{IsLegal}
 use Rattle.ux_model.specs.Pedigree.{before}
 use Rattle.ux_model.proofs.Changes.Walk.{either, maybe}
 use Rattle.ux_model.proofs.Lists.ChangedPlaces.{bool_cases, changed_here, place-changed, length-changed}
@@ -29,10 +30,11 @@ use Rattle.ux_model.proofs.Pedigrees.Moments.{moment}
 use Rattle.ux_model.proofs.Tables.Shows.{socket_found}
 use Rattle.ux_laws.specs.Talking.{offered_bytes, if_found, socket_through, goes_to, request_addr, destination, is_number, sends_to}
 use Rattle.ux_laws.specs.Credentials.{socket_behind}
-use Rattle.ux_laws.specs.Inputs.{shut as input_shut, peer_shut, peer_gone}
+use Rattle.ux_laws.specs.Inputs.{IsInputOver, shut as input_shut, peer_shut, peer_gone}
 use Rattle.ux_laws.specs.Sends.{Queues, IsTaken, whole, first, none as none_taken}
 use Rattle.ux_laws.specs.Waits.{IsWaiting, for_peer, for_datagram}
-use Rattle.ux_laws.specs.Progress.{HasInput, unread, shut, reset, over, InputOrWait, BringsInput, by_send, by_shutdown, by_peer, by_loss}
+use Rattle.ux_laws.specs.Progress.{HasInput, unread, shut, reset, over, InputOrWait, EndsInput, by_shutdown, by_peer, by_loss, BringsInput}
+use Rattle.ux_laws.specs.Progress.{by_send, by_end}
 use Rattle.ux_laws.specs.Progress.{InputsCome, EndsCome}
 use Rattle.ux_laws.proofs.Acts.{Did}
 use Rattle.ux_laws.proofs.Doing.Calls.{step_did}
@@ -46,13 +48,13 @@ use Rattle.ux_laws.proofs.WaitEnds.{parts_stay, socket_stays}
 
 -- ---- what is there, or has to be waited for
 
-both_are : {X : Type 0} {o : Option X} {a b : X} → o ≡ Some a → o ≡ Some b → a ≡ b
+pub both_are : {X : Type 0} {o : Option X} {a b : X} → o ≡ Some a → o ≡ Some b → a ≡ b
 both_are h k = let both = sym h ∙ k in cc both
 
-not_none : {X : Type 0} {o : Option X} {a : X} → o ≡ Some a → o ≡ None → ⊥
+pub not_none : {X : Type 0} {o : Option X} {a : X} → o ≡ Some a → o ≡ None → ⊥
 not_none h k = let both = sym h ∙ k in cc both
 
-input_no_wait : (S : State) (d : ℕ) (s : Socket) → HasInput S s → IsWaiting S d s → ⊥
+pub input_no_wait : (S : State) (d : ℕ) (s : Socket) → HasInput S s → IsWaiting S d s → ⊥
 input_no_wait S d s (unread some) (for_peer peer other k to at none clear unshut others) = some none
 input_no_wait S d s (unread some) (for_datagram k none unshut) = some none
 input_no_wait S d s (shut h) (for_peer peer other k to at none clear unshut others) = false≢true (sym unshut ∙ h)
@@ -104,7 +106,7 @@ input_or_wait boot es j d s legal here moves = record {
 
 -- ---- what is left of a socket
 
-changed_in : (f : Socket → Socket) (x : Option Description) (s : Socket) → socket_in x ≡ Some s →
+pub changed_in : (f : Socket → Socket) (x : Option Description) (s : Socket) → socket_in x ≡ Some s →
     socket_in (option_map (changed f) x) ≡ Some (f s)
 changed_in f None s h = absurd (cc h)
 changed_in f (Some D) s h = at_target D.target h
@@ -113,16 +115,16 @@ changed_in f (Some D) s h = at_target D.target h
     at_target (to_object o) h = absurd (cc h)
     at_target (to_socket u) h = let one : u ≡ s = cc h in ap (λ (w : Socket). Some (f w)) one
 
-socket_changed : (S : State) (d : ℕ) (f : Socket → Socket) (s : Socket) → socket_at S d ≡ Some s →
+pub socket_changed : (S : State) (d : ℕ) (f : Socket → Socket) (s : Socket) → socket_at S d ≡ Some s →
     socket_at (with_socket_by S d f) d ≡ Some (f s)
 socket_changed S d f s h = ap socket_in (changed_here S.descriptions d (changed f)) ∙ changed_in f (description_at S d) s h
 
-socket_other : (S : State) (c d : ℕ) (f : Socket → Socket) → (c == d) ≡ false → socket_at (with_socket_by S c f) d ≡ socket_at S d
+pub socket_other : (S : State) (c d : ℕ) (f : Socket → Socket) → (c == d) ≡ false → socket_at (with_socket_by S c f) d ≡ socket_at S d
 socket_other S c d f apart = ap socket_in (place-changed S.descriptions c d (changed f)
     ∙ ap (λ b. cond b (option_map (changed f) (description_at S d)) (description_at S d)) apart)
 
 -- a part that ECONNRESET leaves alone, at the end of a call
-left_part : {X : Type 0} (part : Socket → X) (U T : State) (d : ℕ) (u t : Socket) → ((w : Socket) → part (with_reset true w) ≡ part w) →
+pub left_part : {X : Type 0} (part : Socket → X) (U T : State) (d : ℕ) (u t : Socket) → ((w : Socket) → part (with_reset true w) ≡ part w) →
     Lost U T d → socket_at U d ≡ Some u → socket_at T d ≡ Some t → part t ≡ part u
 left_part part U T d u t keeps (same e) here there = ap part (both_are there (ap socket_in e ∙ here))
 left_part part U T d u t keeps (lost e) here there = absurd (not_none there (ap socket_in e))
@@ -139,14 +141,18 @@ shutdown_shuts S p k fd how u found = at_found (λ o. o.reply ≡ Reply.Ok → o
     (either (λ o. o.reply ≡ Reply.Ok → o.next ≡ with_socket_by S k (shut_down how)) (is_none (tied_socket u.phase)) _ _ (λ b h. absurd (cc h))
     (λ b h. refl))
 
--- a call that is answered ok leaves the outcome's own state
-ok_own : (S U : State) (o : Outcome) (reply : Reply) → Chosen S o reply U → reply ≡ Reply.Ok → (o.reply ≡ Reply.Ok) × (U ≡ o.next)
-ok_own S U o reply (own e f) h = (sym e ∙ h, f)
-ok_own S U o reply (lacking_memory e may f) h = let clash : Reply.Err Errno.ENOMEM ≡ Reply.Ok = sym e ∙ h in absurd (cc clash)
-ok_own S U o reply (failing e f) h = let clash : Reply.Err Errno.EIO ≡ Reply.Ok = sym e ∙ h in absurd (cc clash)
+-- a call that is answered neither ENOMEM nor EIO leaves the outcome's own state
+pub answered_own : (S U : State) (o : Outcome) (reply r : Reply) → Chosen S o reply U → reply ≡ r → r ≢ Reply.Err Errno.ENOMEM →
+    r ≢ Reply.Err Errno.EIO → (o.reply ≡ r) × (U ≡ o.next)
+answered_own S U o reply r (own e f) h no_memory no_fault = (sym e ∙ h, f)
+answered_own S U o reply r (lacking_memory e may f) h no_memory no_fault = absurd (no_memory (sym h ∙ e))
+answered_own S U o reply r (failing e f) h no_memory no_fault = absurd (no_fault (sym h ∙ e))
+
+pub ok_own : (S U : State) (o : Outcome) (reply : Reply) → Chosen S o reply U → reply ≡ Reply.Ok → (o.reply ≡ Reply.Ok) × (U ≡ o.next)
+ok_own S U o reply c h = answered_own S U o reply Reply.Ok c h (λ e. cc e) (λ e. cc e)
 
 -- the socket that a number leads to
-behind_found : (S : State) (p k : ℕ) (fd : Fd) → socket_behind S p fd ≡ Some k → (u : Socket) × (find_socket S p fd ≡ Ok (k, u))
+pub behind_found : (S : State) (p k : ℕ) (fd : Fd) → socket_behind S p fd ≡ Some k → (u : Socket) × (find_socket S p fd ≡ Ok (k, u))
 behind_found S p k fd h = go (find_socket S p fd) h
   where
     go : (r : Result (ℕ × Socket) Errno) →
@@ -156,7 +162,7 @@ behind_found S p k fd h = go (find_socket S p fd) h
         (w.1, ap (λ (i : ℕ). let r : Result (ℕ × Socket) Errno = Ok (i, w.1) in r) number)
 
 -- it is shut down so then
-step_shuts : (S T : State) (p tag k : ℕ) (fd : Fd) (how : Mode) (reply : Reply) (gone : List ℕ) (t : Socket) →
+pub step_shuts : (S T : State) (p tag k : ℕ) (fd : Fd) (how : Mode) (reply : Reply) (gone : List ℕ) (t : Socket) →
     Step S p tag (Request.Shutdown fd how) reply gone T → reply ≡ Reply.Ok → socket_behind S p fd ≡ Some k → socket_at T k ≡ Some t →
     (can_read how ≡ true → t.read_shut ≡ true) × (can_write how ≡ true → t.write_shut ≡ true)
 unfolding Step outcome
@@ -176,7 +182,7 @@ step_shuts S T p tag k fd how reply gone t step answered behind there =
 -- ---- what comes
 
 -- where a send goes is told by a socket that it goes through
-sent_through : (S : State) (p d : ℕ) (request : Request) → sends_to S d p request ≡ true →
+pub sent_through : (S : State) (p d : ℕ) (request : Request) → sends_to S d p request ≡ true →
     (w : ℕ × Socket) × (socket_through S p request ≡ Some w) × (destination S p request ≡ Some d)
 sent_through S p d request h = go (socket_through S p request) refl h
   where
@@ -196,8 +202,22 @@ queue_grew : (old : List Message) (m : Message) → old ++ m ∷ [] ≢ []
 queue_grew [] m h = cc h
 queue_grew (x ∷ xs) m h = cc h
 
-pub inputs_come : InputsCome
-inputs_come boot es j d e s t legal at here brings there = by_way brings
+-- a shutdown in a history
+pub shut_now : (boot : State) (es : List Entry) (j k : ℕ) (e : Entry) (fd : Fd) (how : Mode) (v : Socket) → IsLegal boot es →
+    slice_get es j ≡ Some e → e.request ≡ Request.Shutdown fd how → e.reply ≡ Reply.Ok →
+    socket_behind (before boot es j) e.pid.0 fd ≡ Some k → socket_at (before boot es (suc j)) k ≡ Some v →
+    (can_read how ≡ true → v.read_shut ≡ true) × (can_write how ≡ true → v.write_shut ≡ true)
+shut_now boot es j k e fd how v legal at is answered behind there =
+    step_shuts (before boot es j) (before boot es (suc j)) e.pid.0 j k fd how e.reply e.released v
+    (subst (λ (r : Request). Step (before boot es j) e.pid.0 j r e.reply e.released (before boot es (suc j))) is
+    (moment boot es j e legal at).steps) answered behind there
+
+-- input is over then
+pub inputs_end : (boot : State) (es : List Entry) (j d : ℕ) (e : Entry) (s t : Socket) → IsLegal boot es → slice_get es j ≡ Some e →
+    socket_at (before boot es j) d ≡ Some s → EndsInput (before boot es j) e d s (before boot es (suc j)) →
+    socket_at (before boot es (suc j)) d ≡ Some t →
+    IsInputOver (before boot es (suc j)) t × ((is_dgram t.kind ≡ false) ⊎ (t.read_shut ≡ true))
+inputs_end boot es j d e s t legal at here ends there = by_way ends
   where
     S : State
     S = before boot es j
@@ -214,8 +234,37 @@ inputs_come boot es j d e s t legal at here brings there = by_way brings
     parts : (t.kind ≡ s.kind) × ((peer : ℕ) → peer_of s.phase ≡ Some peer → peer_of t.phase ≡ Some peer)
     parts = parts_stay S T e.pid.0 j d e.request e.reply s t did here there
 
-    kind_stays : is_dgram s.kind ≡ false → is_dgram t.kind ≡ false
-    kind_stays k = ap is_dgram parts.0 ∙ k
+    Over : Type 0
+    Over = IsInputOver (before boot es (suc j)) t × ((is_dgram t.kind ≡ false) ⊎ (t.read_shut ≡ true))
+
+    connected_over : is_dgram s.kind ≡ false → IsInputOver T t → Over
+    connected_over k ended = (ended, inl (ap is_dgram parts.0 ∙ k))
+
+    by_peers : (peer : ℕ) → peer_of s.phase ≡ Some peer → (u : Socket) → socket_at S peer ≡ Some u →
+        ((v : Socket) → socket_at T peer ≡ Some v → v.write_shut ≡ true) → (x : Option Description) →
+        description_at T peer ≡ x → IsInputOver T t
+    by_peers peer to u was shuts None is = peer_gone peer (parts.1 peer to) is
+    by_peers peer to u was shuts (Some D) is =
+        let v = socket_stays S T e.pid.0 j peer e.request e.reply u D did was is in
+        peer_shut peer v.0 (parts.1 peer to) v.1 (shuts v.0 v.1)
+
+    by_way : EndsInput S e d s T → Over
+    by_way (by_shutdown fd how is answered reads behind) =
+        let shuts = (shut_now boot es j d e fd how t legal at is answered behind there).0 reads in (input_shut shuts, inr shuts)
+    by_way (by_peer peer fd how k to is answered writes behind) =
+        let w = behind_found S e.pid.0 peer fd behind in
+        connected_over k (by_peers peer to w.0 (socket_found S e.pid.0 peer fd w.0 w.1)
+        (λ v at_end. (shut_now boot es j peer e fd how v legal at is answered behind at_end).1 writes) (description_at T peer) refl)
+    by_way (by_loss peer k to gone) = connected_over k (peer_gone peer (parts.1 peer to) gone)
+
+pub inputs_come : InputsCome
+inputs_come boot es j d e s t legal at here brings there = by_way brings
+  where
+    S : State
+    S = before boot es j
+
+    T : State
+    T = before boot es (suc j)
 
     has_queued : (bytes : List ℕ) (queue : List Message) → Queues queue (socket_at T d) j bytes → HasInput T t
     has_queued bytes queue q = let w = q t there in
@@ -228,20 +277,6 @@ inputs_come boot es j d e s t legal at here brings there = by_way brings
     by_taken n bytes u found some (none_taken k m zero q) = ⊎_elim {C = HasInput T t} (λ more. absurd (omega (arith, more, zero)))
         (λ other. absurd (false≢true (sym other ∙ ap (λ (x : Socket). is_stream x.kind) (both_are here found) ∙ k))) some
 
-    shut_now : (k : ℕ) (fd : Fd) (how : Mode) (v : Socket) → e.request ≡ Request.Shutdown fd how → e.reply ≡ Reply.Ok →
-        socket_behind S e.pid.0 fd ≡ Some k → socket_at T k ≡ Some v →
-        (can_read how ≡ true → v.read_shut ≡ true) × (can_write how ≡ true → v.write_shut ≡ true)
-    shut_now k fd how v is answered behind at_end = step_shuts S T e.pid.0 j k fd how e.reply e.released v
-        (subst (λ (r : Request). Step S e.pid.0 j r e.reply e.released T) is step) answered behind at_end
-
-    by_peers : (peer : ℕ) (fd : Fd) (how : Mode) → is_dgram s.kind ≡ false → peer_of s.phase ≡ Some peer → (u : Socket) →
-        socket_at S peer ≡ Some u → ((v : Socket) → socket_at T peer ≡ Some v → v.write_shut ≡ true) → (x : Option Description) →
-        description_at T peer ≡ x → HasInput T t
-    by_peers peer fd how k to u was shuts None is = over (kind_stays k) (peer_gone peer (parts.1 peer to) is)
-    by_peers peer fd how k to u was shuts (Some D) is =
-        let v = socket_stays S T e.pid.0 j peer e.request e.reply u D did was is in
-        over (kind_stays k) (peer_shut peer v.0 (parts.1 peer to) v.1 (shuts v.0 v.1))
-
     by_way : BringsInput S e d s T → HasInput T t
     by_way (by_send n goes answered some) =
         let w = sent_through S e.pid.0 d e.request goes in
@@ -249,12 +284,9 @@ inputs_come boot es j d e s t legal at here brings there = by_way brings
         let number : sent.number ≡ d = both_are sent.to w.2 in
         by_taken n (offered_bytes e.request) sent.target (ap (λ (i : ℕ). socket_at S i) (sym number) ∙ sent.there) some
         (subst (λ (i : ℕ). IsTaken sent.target (socket_at T i) j n (offered_bytes e.request)) number sent.takes)
-    by_way (by_shutdown fd how is answered reads behind) = shut ((shut_now d fd how t is answered behind there).0 reads)
-    by_way (by_peer peer fd how k to is answered writes behind) =
-        let w = behind_found S e.pid.0 peer fd behind in
-        by_peers peer fd how k to w.0 (socket_found S e.pid.0 peer fd w.0 w.1)
-        (λ v at_end. (shut_now peer fd how v is answered behind at_end).1 writes) (description_at T peer) refl
-    by_way (by_loss peer k to gone) = over (kind_stays k) (peer_gone peer (parts.1 peer to) gone)
+    by_way (by_end ends) =
+        let w = inputs_end boot es j d e s t legal at here ends there in
+        ⊎_elim {C = HasInput T t} (λ k. over k w.0) (λ h. shut h) w.1
 
 -- ---- ends
 

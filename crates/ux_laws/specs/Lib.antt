@@ -10,6 +10,7 @@ pub mod Records
 pub mod Rights
 pub mod OwnNames
 pub mod Reach
+pub mod Apartness
 pub mod Ends
 pub mod Inputs
 pub mod Connections
@@ -19,3 +20,7 @@ pub mod FileReads
 pub mod Waits
 pub mod Progress
 pub mod FileWaits
+pub mod Rooms
+pub mod MessageWaits
+pub mod Polls
+pub mod PollWakes

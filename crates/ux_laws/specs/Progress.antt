@@ -53,19 +53,24 @@ abbrev pub InputOrWait : Type 0
 InputOrWait = (boot : State) (entries : List Entry) (j d : ℕ) (s : Socket) → IsLegal boot entries →
     socket_at (before boot entries j) d ≡ Some s → moves_data s ≡ true → IsEither (before boot entries j) d s
 
--- What brings something there, to socket d, which is s, by a call from S to T.
+-- What ends the input of socket d, which is s, by a call from S to T.
+pub data EndsInput (S : State) (e : Entry) (d : ℕ) (s : Socket) (T : State) : Type 0 where
+  -- a shutdown for reading, or of its peer for writing
+  by_shutdown : (fd : Fd) (how : Mode) → e.request ≡ Request.Shutdown fd how → e.reply ≡ Reply.Ok → can_read how ≡ true →
+      socket_behind S e.pid.0 fd ≡ Some d → EndsInput S e d s T
+  by_peer : (peer : ℕ) (fd : Fd) (how : Mode) → is_dgram s.kind ≡ false → peer_of s.phase ≡ Some peer →
+      e.request ≡ Request.Shutdown fd how → e.reply ≡ Reply.Ok → can_write how ≡ true → socket_behind S e.pid.0 fd ≡ Some peer →
+      EndsInput S e d s T
+  -- one by which the peer is freed
+  by_loss : (peer : ℕ) → is_dgram s.kind ≡ false → peer_of s.phase ≡ Some peer → description_at T peer ≡ None → EndsInput S e d s T
+
+-- What brings something there.
 pub data BringsInput (S : State) (e : Entry) (d : ℕ) (s : Socket) (T : State) : Type 0 where
   -- a send of some bytes, or of a datagram or a record
   by_send : (n : ℕ) → sends_to S d e.pid.0 e.request ≡ true → e.reply ≡ Reply.Count n → (0 < n) ⊎ (is_stream s.kind ≡ false) →
       BringsInput S e d s T
-  -- a shutdown for reading, or of its peer for writing
-  by_shutdown : (fd : Fd) (how : Mode) → e.request ≡ Request.Shutdown fd how → e.reply ≡ Reply.Ok → can_read how ≡ true →
-      socket_behind S e.pid.0 fd ≡ Some d → BringsInput S e d s T
-  by_peer : (peer : ℕ) (fd : Fd) (how : Mode) → is_dgram s.kind ≡ false → peer_of s.phase ≡ Some peer →
-      e.request ≡ Request.Shutdown fd how → e.reply ≡ Reply.Ok → can_write how ≡ true → socket_behind S e.pid.0 fd ≡ Some peer →
-      BringsInput S e d s T
-  -- one by which the peer is freed
-  by_loss : (peer : ℕ) → is_dgram s.kind ≡ false → peer_of s.phase ≡ Some peer → description_at T peer ≡ None → BringsInput S e d s T
+  -- the end of input
+  by_end : EndsInput S e d s T → BringsInput S e d s T
 
 -- Then it is there.
 abbrev pub InputsCome : Type 0

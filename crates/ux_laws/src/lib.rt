@@ -7,6 +7,11 @@ ghost use Rattle.ux_laws.specs.Waits.{ReceivesWait, ReadsWait, WaitsEnd, SendsWa
 ghost use Rattle.ux_laws.specs.Waits.{AcceptsWait, AcceptWaitsEnd, ConnectsWait, ConnectWaitsEnd};
 ghost use Rattle.ux_laws.specs.Progress.{ReceivesWaitWhile, ReadsWaitWhile, InputOrWait, InputsCome, AcceptsWaitWhile, EndsCome, ConnectsWaitWhile};
 ghost use Rattle.ux_laws.specs.Progress.{SendsWaitWhile, WritesWaitWhile};
+ghost use Rattle.ux_laws.specs.Rooms.{QueuesGetRoom, SendsFindRoom, RoomOrWait, RoomsCome, SendsGoOn};
+ghost use Rattle.ux_laws.specs.Rooms.{DatagramsGoOn, PlacesCome, ConnectsFindAPlace};
+ghost use Rattle.ux_laws.specs.MessageWaits.{DatagramsWaitWhile, DatagramWritesWaitWhile, MessagesWaitWhile};
+ghost use Rattle.ux_laws.specs.Polls.{PollsWaitWhile, NoLostWakeup};
+ghost use Rattle.ux_laws.specs.PollWakes.{PollsAreWoken};
 ghost use Rattle.ux_laws.specs.FileWaits.{FileReadsWaitWhile, FileWritesWaitWhile};
 ghost use Rattle.ux_laws.specs.Credentials.{CredentialsAreTheSenders, PeersAreTheMakers};
 ghost use Rattle.ux_laws.specs.Ends.{EndsAreForEver, ResetsAreOfLosses, LossesReset, SendsFindNobody, WritesBreak};
@@ -25,6 +30,8 @@ ghost use Rattle.ux_laws.specs.OwnNames.{NamesAreGiven, OneIsNamed, AbstractName
 ghost use Rattle.ux_laws.specs.OwnNames.{NewSocketsHaveNoName};
 ghost use Rattle.ux_laws.specs.Reach.{CallsLeaveOthersAlone, CallsLeaveTablesAlone, CallsLeavePathsAlone};
 ghost use Rattle.ux_laws.specs.Reach.{AbstractNamesStay, AbstractNamesAreBound};
+ghost use Rattle.ux_laws.specs.Apartness.{OthersChangeNothingSeen, SameCallsAreAnsweredAlike, ApartnessStays};
+ghost use Rattle.ux_laws.specs.Apartness.{OthersKeepToTheirSide, ApartMeansApart};
 ghost use Rattle.ux_laws.specs.Records.{RecordsArriveInOrder, RecordsArriveOnce, RecordsArriveWhole, ReadRecordsArriveWhole};
 ghost use Rattle.ux_laws.specs.Rights.{RightsComeOnce, RightsComeWithTheirMessage, RightsAreAsked};
 ghost use Rattle.ux_laws.specs.Separation.{KeptFilesAreSeparated};
@@ -277,6 +284,36 @@ pub fn calls_leave_paths_alone()
     ensures { CallsLeavePathsAlone }
 {}
 
+/// Processes that are apart from the rest see nothing of what others do: no call of another process that gives no address
+/// of theirs changes their tables and ids, their descriptions, or what is in their file objects.
+#[tactic(auto, using(crate::proofs::Aside::Unseen::others_change_nothing_seen))]
+pub fn others_change_nothing_seen()
+    ensures { OthersChangeNothingSeen }
+{}
+
+/// What they are answered depends on what they see alone: the same call that goes by descriptors, of the same process, in
+/// two states that they can't tell apart, is answered the same, and leaves two such states.
+pub fn same_calls_are_answered_alike()
+    ensures { SameCallsAreAnsweredAlike }
+{}
+
+/// No call by descriptors makes a way between the sides, whichever of them makes it: they stay apart.
+pub fn apartness_stays()
+    ensures { ApartnessStays }
+{}
+
+/// Nor does any call of another process that gives no address of theirs and opens no file object of theirs by its path.
+#[tactic(auto, using(crate::proofs::Aside::Own::others_keep_to_their_side))]
+pub fn others_keep_to_their_side()
+    ensures { OthersKeepToTheirSide }
+{}
+
+/// Apart means apart: two histories in which the watched processes make the same calls by descriptors, and the environment
+/// chooses alike for them, answer them the same, whatever the others do, as long as no call makes a way between the sides.
+pub fn apart_means_apart()
+    ensures { ApartMeansApart }
+{}
+
 /// A name of the abstract namespace goes only with its socket.
 pub fn abstract_names_stay()
     ensures { AbstractNamesStay }
@@ -524,6 +561,71 @@ pub fn writes_wait_exactly_for_room()
     ensures { WritesWaitWhile }
 {}
 
+/// A plain send of a datagram that isn't too long, by an address or by an association, is answered EAGAIN exactly while its
+/// target takes datagrams of the socket and its queue has no room, the socket isn't shut down for writing, nor the target for
+/// reading.
+pub fn datagrams_wait_exactly_for_room()
+    ensures { DatagramsWaitWhile }
+{}
+
+/// So is a write, which goes where the socket is associated.
+pub fn datagram_writes_wait_exactly_for_room()
+    ensures { DatagramWritesWaitWhile }
+{}
+
+/// A send with a control buffer is answered EAGAIN, unless memory runs out, exactly where it is in order and the queue that it
+/// would go to has no room. It is in order where its flags, its control buffer and its address are ones that a send takes,
+/// its rights are open, its credentials may be told, and its user has few enough rights in flight.
+pub fn messages_wait_exactly_for_room()
+    ensures { MessagesWaitWhile }
+{}
+
+/// A receive makes room in the queue that it takes a record from, or bytes enough that fewer than the limit are left; so does
+/// a new limit above what waits.
+pub fn queues_get_room()
+    ensures { QueuesGetRoom }
+{}
+
+/// So the next call isn't answered EAGAIN, where that sends to the socket of the queue: through a connected one, by an
+/// association, or by an address.
+pub fn sends_find_room()
+    ensures { SendsFindRoom }
+{}
+
+/// Through a connected socket either a send needs no room or it has to wait for some: it needs none where the peer's queue
+/// has room, where the socket is shut down for writing, and where the peer is shut down for reading or gone.
+pub fn room_or_wait()
+    ensures { RoomOrWait }
+{}
+
+/// After a call that makes room in the peer's queue, a shutdown of the socket for writing or of its peer for reading, or the
+/// peer's loss, a send through the connected socket needs no room.
+pub fn rooms_come()
+    ensures { RoomsCome }
+{}
+
+/// So the next call, where that is a send or a write through it, isn't answered EAGAIN.
+pub fn sends_go_on()
+    ensures { SendsGoOn }
+{}
+
+/// Where room is made in the queue that a datagram goes to, that socket is shut down for reading or freed, or the sender is shut
+/// down for writing, the next call isn't answered EAGAIN that sends one there.
+pub fn datagrams_go_on()
+    ensures { DatagramsGoOn }
+{}
+
+/// An accept that takes an end brings a place to its listener, where no more ends wait than may, and so does a listen with a
+/// larger backlog than wait.
+pub fn places_come()
+    ensures { PlacesCome }
+{}
+
+/// So the next call, where that is a connect to the listener, isn't answered EAGAIN.
+pub fn connects_find_a_place()
+    ensures { ConnectsFindAPlace }
+{}
+
 /// A read of a pipe or a counter that asks for something is answered EAGAIN exactly while nothing is in it, and of a pipe
 /// somebody can write to it. One of a memory file never is.
 pub fn file_reads_wait_exactly_for_bytes()
@@ -534,6 +636,24 @@ pub fn file_reads_wait_exactly_for_bytes()
 /// bytes, or a counter for its number.
 pub fn file_writes_wait_exactly_for_room()
     ensures { FileWritesWaitWhile }
+{}
+
+/// A poll of several descriptors that waits, of at most 64, is answered EAGAIN exactly while nothing is reported of any.
+pub fn polls_wait_exactly_while_nothing_is_reported()
+    ensures { PollsWaitWhile }
+{}
+
+/// And never while there is something to be told: a number that isn't open, input, room or the end of input that was asked
+/// for, a description that is hung up or has failed.
+pub fn polls_lose_no_wakeup()
+    ensures { NoLostWakeup }
+{}
+
+/// What brings input, room or the end of input to a socket, or an end to a listener, ends the wait of a poll that asks for that
+/// there, and so does the loss of a connected socket's peer, whatever is asked for: the next call, where that is such a poll,
+/// isn't answered EAGAIN.
+pub fn polls_are_woken()
+    ensures { PollsAreWoken }
 {}
 
 /// A call is answered a refusal, or what its manual page says that it gives: `open` a descriptor, `read` bytes, and so on.

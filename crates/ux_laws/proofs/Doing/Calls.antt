@@ -71,6 +71,7 @@ asks_nowhere S p (Request.OutQueue fd) h = refl
 asks_nowhere S p (Request.GetSockName fd) h = refl
 asks_nowhere S p (Request.GetPeerName fd) h = refl
 asks_nowhere S p (Request.Poll fd) h = refl
+asks_nowhere S p (Request.PollMany fds waits) h = refl
 asks_nowhere S p request h = absurd (false≢true h)
 
 each_did : (S : State) (p tag : ℕ) (request : Request) → Did S p tag request (outcome S p tag request).reply (outcome S p tag request).next

@@ -148,22 +148,34 @@ by_addr Q S kind addr rest bad rest_of = go (look_up S kind addr) refl
     go (Err e) h = bad e
     go (Ok w) h = rest_of w.0 w.1 h (look_up_there S kind addr w.0 w.1 h).0
 
+-- sockets of the same kind as a datagram socket
+pub dgrams_too : (a b : SockType) → same_kind a b ≡ true → is_dgram a ≡ true → is_dgram b ≡ true
+dgrams_too SockType.Stream b same h = absurd (false≢true h)
+dgrams_too SockType.Dgram SockType.Dgram same h = refl
+dgrams_too SockType.Dgram SockType.Stream same h = absurd (false≢true same)
+dgrams_too SockType.Dgram SockType.Seq same h = absurd (false≢true same)
+dgrams_too SockType.Seq b same h = absurd (false≢true h)
+
 pub connect_did : (S : State) (p tag : ℕ) (fd : Fd) (addr : Addr) →
     Did S p tag (Request.Connect fd addr) (connect S p fd addr).reply (connect S p fd addr).next
 unfolding connect
 connect_did S p tag fd addr = maybe Q (process_at S p) _ _ refuses (λ P here. by_socket Q S p fd _ (λ e. refuses)
-    (λ d s h there. either Q (is_dgram s.kind) _ _ (λ b. datagram d s there) (λ b. stream P here d s h there)))
+    (λ d s h there. either Q (is_dgram s.kind) _ _ (λ b. datagram d s there b) (λ b. stream P here d s h there)))
   where
     Q : Outcome → Type 0
     Q o = Did S p tag (Request.Connect fd addr) o.reply o.next
 
-    datagram : (d : ℕ) (s : Socket) → socket_at S d ≡ Some s →
+    datagram : (d : ℕ) (s : Socket) → socket_at S d ≡ Some s → is_dgram s.kind ≡ true →
         Did S p tag (Request.Connect fd addr) (connect_datagram S d s.kind addr).reply (connect_datagram S d s.kind addr).next
-    datagram d s there = either Q (not (is_valid_addr addr)) _ _ (λ b. refuses) (λ b. either Q (is_unnamed_addr addr) _ _
-        (λ c. tied_to d None s refl there (kept_shrinks (kept_same _ _ refl)))
+    datagram d s there kind = either Q (not (is_valid_addr addr)) _ _ (λ b. refuses) (λ b. either Q (is_unnamed_addr addr) _ _
+        (λ c. tied_to d None s refl there (λ k is. absurd (cc is)) (kept_shrinks (kept_same _ _ refl)))
         (λ c. by_addr Q S s.kind addr _ (λ e. refuses)
         (λ t target is at. either Q (takes_from d target.phase) _ _
-        (λ e. tied_to d (Some t) s refl there (kept_shrinks (kept_same _ _ refl))) (λ e. refuses))))
+        (λ e. tied_to d (Some t) s refl there (λ k to. (
+          target,
+          ap (λ (o : Option ℕ). elim o as (λ _. Option Socket) [ None ↦ None | Some i ↦ socket_at S i ]) (sym to) ∙ at,
+          dgrams_too s.kind target.kind (look_up_there S s.kind addr t target is).1 kind,
+        )) (kept_shrinks (kept_same _ _ refl))) (λ e. refuses))))
 
     to_one : (P : Process) → process_at S p ≡ Some P → (d : ℕ) (s : Socket) → find_socket S p fd ≡ Ok (d, s) → socket_at S d ≡ Some s →
         peer_of s.phase ≡ None → (l : ℕ) (other : Socket) → look_up S s.kind addr ≡ Ok (l, other) → socket_at S l ≡ Some other →

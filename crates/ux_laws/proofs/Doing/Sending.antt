@@ -143,7 +143,7 @@ by_association_did : (S : State) (p tag : ℕ) (request : Request) (limit : Opti
 by_association_did S p tag request limit end None s P m offered from goes here = refuses
 by_association_did S p tag request limit end (Some t) s P m offered from goes here =
     maybe (λ o. Did S p tag request o.reply o.next) (socket_at S t) _ _
-    (tied_to end None s refl here (kept_shrinks (kept_same _ _ refl)))
+    (tied_to end None s refl here (λ t is. absurd (cc is)) (kept_shrinks (kept_same _ _ refl)))
     (λ target h. to_target_did S p tag request limit t end s target P m offered from goes h)
 
 send_by_did : (S : State) (p tag : ℕ) (request : Request) (limit : Option ℕ) (end : ℕ) (s : Socket) (addr : Option Addr) (P : Process)

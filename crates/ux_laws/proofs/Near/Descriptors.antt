@@ -104,7 +104,7 @@ ids_near S p uid gid = maybe Q (process_at S p) _ _ still (λ P h. either Q ((ui
 
 pub off_near : (S : State) (p : ℕ) → Near S p Request.Off (off S).next
 unfolding off
-off_near S p = record { each = λ d. gone (place_mapped (λ D. None) S.descriptions d refl) }
+off_near S p = record { each = λ d. gone refl (place_mapped (λ D. None) S.descriptions d refl) }
 
 pub open_near : (S : State) (p : ℕ) (path : Name) (mode : Mode) (flags : OpenFlags) →
     Near S p (Request.Open path mode flags) (open_file S p path mode flags).next

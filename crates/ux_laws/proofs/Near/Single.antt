@@ -15,6 +15,7 @@ use Rattle.ux_model.specs.Process.{Descriptor}
 use Rattle.ux_model.specs.State.{State, description_at, with_description}
 use Rattle.ux_model.specs.State.{with_description_by, with_socket_by, with_table, with_new}
 use Rattle.ux_model.specs.Accepting.{phase_without_first_end}
+use Rattle.ux_model.specs.History.{is_off}
 use Rattle.ux_model.proofs.Lists.ChangedPlaces.{bool_cases, place-changed}
 use Rattle.ux_model.proofs.Steps.NameCalls.{same_descriptions}
 use Rattle.ux_laws.specs.Reach.{IsInReach}
@@ -218,12 +219,12 @@ Keeps request old x = (reset_in x ≡ true → reset_in old ≡ true) × (is_shu
     × (is_connect request ≡ false → awaits_in old ≡ true → awaits_in x ≡ true) × (sets_option request ≡ false → limit_in x ≡ limit_in old)
     × (may_give_place request ≡ false → full_in old ≡ true → full_in x ≡ true) × KeepsOwn request old x
 
--- what becomes of one: it stays, it is in reach and not reset by the call, or it is gone
+-- what becomes of one: it stays, it is in reach and not reset by the call, or it is gone with the layer
 pub data NearAt (S : State) (p : ℕ) (request : Request) (d : ℕ) (x : Option Description) : Type 0 where
   stays : x ≡ description_at S d → NearAt S p request d x
   reached : IsInReach S p request d → Keeps request (description_at S d) x → NearAt S p request d x
   new : length S.descriptions ≤ d → Keeps request (description_at S d) x → NearAt S p request d x
-  gone : x ≡ None → NearAt S p request d x
+  gone : is_off request ≡ true → x ≡ None → NearAt S p request d x
 
 pub record Near (S : State) (p : ℕ) (request : Request) (U : State) : Type 0 where
   pub each : (d : ℕ) → NearAt S p request d (description_at U d)
@@ -280,7 +281,7 @@ near_by {S} {p} {request} T t change near reach resets = record {
     ) r
     at_place d {x} (reached q still) r = both d x still r
     at_place d {x} (new more still) r = both d x still r
-    at_place d {x} (gone is) r = gone (ap (λ y. option_map change y) is)
+    at_place d {x} (gone off is) r = gone off (ap (λ y. option_map change y) is)
 
 -- of a socket
 pub near_socket : {S : State} {p : ℕ} {request : Request} (T : State) (t : ℕ) (change : Socket → Socket) → Near S p request T →

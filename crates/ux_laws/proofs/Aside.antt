@@ -1,0 +1,20 @@
+-- What one side does and the other sees: references are counted side by side, so that what goes at the end of a call is of the caller's.
+pub mod Counting
+pub mod Processes
+pub mod Rounds
+pub mod Unseen
+pub mod Twins
+pub mod Settling
+pub mod Agreeing
+pub mod Descriptors
+pub mod Sockets
+pub mod Readiness
+pub mod Accepting
+pub mod Messages
+pub mod Sends
+pub mod Files
+pub mod Alike
+pub mod Growing
+pub mod Histories
+pub mod Staying
+pub mod Own
