@@ -111,6 +111,9 @@ pub fn read_args<'a>(alloc: Global, words: &'a [String]) -> Result<Args<'a>, Err
         Err(error) if misses_its_script(&error, words) => {
             return Err(command.error(ErrorKind::MissingRequiredArgument, NO_SCRIPT)?);
         }
+        Err(error) if error.kind() == ErrorKind::UnknownArgument && has_negative(words) => {
+            return Err(command.error(ErrorKind::ValueValidation, NEGATIVE)?);
+        }
         Err(error) => return Err(error),
     };
     let (Some(audit), Some(holders), Some(dot)) = (
@@ -191,6 +194,24 @@ fn misses_its_script(error: &Error, words: &[String]) -> bool {
     };
     error.kind() == ErrorKind::MissingRequiredArgument && VALUED.contains(&option.as_str())
 }
+
+/// Whether a number below 0 stands behind an option that wants a value.
+fn has_negative(words: &[String]) -> bool {
+    words.iter().zip(words.iter().skip(1)).any(|(option, value)| {
+        VALUED.contains(&option.as_str()) && is_negative(value.as_str())
+    })
+}
+
+/// Whether a word is a minus and a digit at least.
+fn is_negative(word: &str) -> bool {
+    match word.strip_prefix("-") {
+        Some(digits) => digits.parse::<u64>().is_ok(),
+        None => false,
+    }
+}
+
+/// Why a number below 0 isn't taken.
+const NEGATIVE: &str = "WHEN, ORDER and N aren't below 0";
 
 const THREADS: &str =
     "Makes the calls of each process in a thread of its own, where they wait if they have to";

@@ -33,6 +33,9 @@ pub enum CommandFault {
     /// In the order that was asked for, the process at this place, counted from 1, can make no call.
     #[error("order: the process at place {0} can't go on")]
     Order(usize),
+    /// In the order that was asked for, no process has the number at this place, counted from 1.
+    #[error("order: at place {} there is no process {}", .0, .1.0)]
+    Nobody(usize, Pid),
     /// In some orders each process that is left waits: so many outcomes are deadlocks, of so many.
     #[error("deadlock in {0} of {1} outcomes")]
     Deadlocks(usize, usize),

@@ -100,6 +100,28 @@ fn what_is_no_moment_is_refused(rt: HostRuntime) -> Result<(), Fail> {
 }
 
 #[test]
+fn a_number_below_0_is_refused_as_a_value(rt: HostRuntime) -> Result<(), Fail> {
+    for (option, value) in [("--audit", "-1"), ("--order", "-2"), ("--limit", "-3")] {
+        let words = texts(rt.alloc(), &["uxrun", option, value, "a.ux"])?;
+        let reported = read_args(rt.alloc(), words.as_slice())
+            .err()
+            .ok_or("understood")?;
+        assert!(rt; reported.kind() == ErrorKind::ValueValidation, "{option}");
+        let text = format!(in rt.alloc(); "{reported}")?;
+        assert!(rt;
+            text.starts_with("error: WHEN, ORDER and N aren't below 0\n"),
+            "{text}"
+        );
+    }
+    let words = texts(rt.alloc(), &["uxrun", "-1", "a.ux"])?;
+    let reported = read_args(rt.alloc(), words.as_slice())
+        .err()
+        .ok_or("understood")?;
+    assert!(rt; reported.kind() == ErrorKind::UnknownArgument);
+    Ok(())
+}
+
+#[test]
 fn several_scripts_go_with_what_is_expected(rt: HostRuntime) -> Result<(), Fail> {
     let words = texts(rt.alloc(), &["uxrun", "--expect", "a.ux", "b.ux", "-"])?;
     let Ok(args) = read_args(rt.alloc(), words.as_slice()) else {
@@ -385,6 +407,10 @@ fn faults_have_their_texts(rt: HostRuntime) -> Result<(), Fail> {
         (
             CommandFault::Order(3),
             "order: the process at place 3 can't go on",
+        ),
+        (
+            CommandFault::Nobody(1, Pid(9)),
+            "order: at place 1 there is no process 9",
         ),
         (CommandFault::Deadlocks(1, 3), "deadlock in 1 of 3 outcomes"),
         (

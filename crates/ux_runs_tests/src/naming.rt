@@ -33,6 +33,11 @@ const ROWS: &[(&str, &str)] = &[
         "proc p 1000 1000 0 16\np pair stream - -> a b\np close $b\np dup $a\np send $a p:$a,$b \" -> c\" - -\n# $a -> b\np open p:$a r -\n",
         "proc 1000 1000 0 16\n1 pair stream -\n1 close 1\n1 dup 0\n1 send 0 p:$a,$b 202d3e2063 - -\n# $a -> b\n1 open p:$a r -\n",
     ),
+    // In the list of a poll, also among numbers.
+    (
+        "proc p 1000 1000 0 16\np pair stream - -> a b\np polls $a:io,1:-,$b:h now\np polls 0:i,$b:i wait\np close $b\n",
+        "proc 1000 1000 0 16\n1 pair stream -\n1 polls 0:io,1:-,1:h now\n1 polls 0:i,1:i wait\n1 close 1\n",
+    ),
     // What a reply is expected to say.
     (
         "proc p 1000 1000 0 16\np pair stream - -> a b\n#= fds $a $b\np dup $b -> c\n# = fd $c\np close 9\n#=\n",
@@ -170,6 +175,17 @@ const TYPED: &[(&str, &str, bool)] = &[
         "1 eventfd 255 xs\n1 recv 0 0x 0 MSG_PEEK|O_WHAT\n1 bind 0 p:O_RDWR",
         false,
     ),
+    // A poll of descriptors with conditions behind colons, in words, constants and letters, which waits unless `now` is last.
+    (
+        "1 poll 3:in  4:POLLIN|POLLOUT 5:- # all\n1 poll 3:rdhup|in now\n1 poll 3:ioh now",
+        "1 polls 3:i,4:io,5:- wait\n1 polls 3:ih now\n1 polls 3:ioh now",
+        false,
+    ),
+    (
+        "1 poll 3\n1 poll 3 now\n1 poll 3:what 4 5:in|what\n1 polls 3:i now\n# 1 poll 3:in",
+        "1 poll 3\n1 poll 3 now\n1 polls 3:what,4,5:in|what wait\n1 polls 3:i now\n# 1 poll 3:in",
+        false,
+    ),
     ("wider\n", "wider\n", false),
     ("serial\nwide\n", "serial\nwide\n", false),
     ("proc 0 0 0 4\nwide\n", "proc 0 0 0 4\nwide\n", false),
@@ -181,7 +197,7 @@ fn a_wide_script_is_read_as_a_serial_one(rt: HostRuntime) -> Result<(), Fail> {
         let typed = as_typed(rt.alloc(), text.as_bytes())?;
         assert!(rt; typed.text.as_slice() == wanted.as_bytes(), "{text}");
         assert!(rt; typed.wide == *wide, "{text}");
-        let constants = text.contains("SOCK_") || text.contains("0xff");
+        let constants = text.contains("SOCK_") || text.contains("0xff") || text.contains("poll 3:");
         assert!(rt; typed.constants == constants, "{text}");
     }
     Ok(())

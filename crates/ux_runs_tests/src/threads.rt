@@ -47,7 +47,7 @@ fn repeat(
     Ok(())
 }
 
-/// Each process waits for what the other writes to a counter.
+/// Each process waits by a poll for what the other writes to a counter.
 const SEMAPHORES: &str = "object p:a counter
 object p:b counter
 proc 1000 1000 0 16
@@ -56,8 +56,10 @@ proc 1000 1000 0 16
 2 open p:a rw -
 1 open p:b rw -
 2 open p:b rw -
+1 polls 0:i,1:- wait
 1 read 0 8
 2 write 0 0500000000000000
+2 polls 1:i wait
 2 read 1 8
 1 write 1 0700000000000000
 off
@@ -73,13 +75,13 @@ fn two_threads_wait_for_one_another(rt: HostRuntime) -> Result<(), Fail> {
     for _run in 0..RUNS {
         let mut trace = Vec::new(alloc);
         let entries = history_of(&rt, alloc, &script, &mut trace, &NoGate)?;
-        repeat(&rt, alloc, &script, &entries, 11)?;
+        repeat(&rt, alloc, &script, &entries, 13)?;
     }
     Ok(())
 }
 
 /// Scripts that come to where every process waits: what is reported then, and the trace up to there.
-const DEADLOCKS: [(&str, &str, &str); 4] = [
+const DEADLOCKS: [(&str, &str, &str); 5] = [
     (
         "object p:a counter
 proc 1000 1000 0 16
@@ -89,6 +91,16 @@ proc 1000 1000 0 16
 ",
         "deadlock: process 1 waits in line 4",
         "0 1 0 open = fd 0\n",
+    ),
+    (
+        "proc 1000 1000 0 16
+1 pair stream -
+1 polls 0:i,1:i now
+1 polls 0:i,1:i wait
+1 close 0
+",
+        "deadlock: process 1 waits in line 4",
+        "0 1 0 pair = fds 0 1\n1 1 1 polls = polled - -\n",
     ),
     (
         "object p:a counter

@@ -1,6 +1,8 @@
 -- What a line with names in it stands for: the line in which each `$NAME` is a number. A path may have a dollar sign; so a name is one in a
--- word that begins with it, and in the items of a control buffer alone, where no dollar sign may stand otherwise.
-use Rattle.std.specs.Prelude.{ℕ, Bool, ◌||◌, ◌==◌, if◌then◌else◌, List, [], ◌∷◌, ◌++◌, take, drop, codes, decimal, Option, Some, None}
+-- word that begins with it, in the items of a control buffer and in the list of a poll's descriptors alone, where no dollar sign may stand
+-- otherwise.
+use Rattle.std.specs.Char.{is_ascii_digit}
+use Rattle.std.specs.Prelude.{ℕ, Bool, false, ◌||◌, ◌==◌, if◌then◌else◌, List, [], ◌∷◌, ◌++◌, take, drop, codes, decimal, Option, Some, None}
 use Rattle.std.specs.List.{flat_map, slice_split}
 use Rattle.std.specs.Str.{bytes_eq}
 use Rattle.ux_script_names.specs.declared.scope.Named.{Named}
@@ -40,9 +42,20 @@ item_number_for meaning part =
 abbrev pub item_for : Meaning → List ℕ → List ℕ
 item_for meaning item = each_between 44 (item_number_for meaning) item
 
--- the items of a control buffer stand between plus signs
+-- a descriptor of a poll, with what is asked for of it behind a colon
+abbrev pub asked_for : Meaning → List ℕ → List ℕ
+asked_for meaning item = each_between 58 (number_for meaning) item
+
+-- a digit or a dollar sign, with which a number begins, and the list of a poll's descriptors
+abbrev pub begins_number : List ℕ → Bool
+begins_number [] = false
+begins_number (c ∷ cs) = is_ascii_digit c || c == 36
+
+-- a poll's descriptors stand between commas, the items of a control buffer between plus signs
 abbrev pub word_for : Meaning → List ℕ → List ℕ
-word_for meaning word = if begins_item word then each_between 43 (item_for meaning) word else number_for meaning word
+word_for meaning word =
+    if begins_item word then each_between 43 (item_for meaning) word
+    else if begins_number word then each_between 44 (asked_for meaning) word else word
 
 -- a line's words stand between blanks
 abbrev pub line_for : Meaning → List ℕ → List ℕ

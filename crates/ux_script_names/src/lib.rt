@@ -5,6 +5,7 @@ mod constants;
 mod fault;
 mod line;
 mod names;
+mod polls;
 mod run;
 mod scope;
 mod typed;

@@ -1,6 +1,7 @@
 //! Scripts as people type them.
 
 use crate::constants::word_for;
+use crate::polls::polls_line;
 use std::alloc::{AllocError, Global};
 use ux_syntax::tidy_text;
 
@@ -10,12 +11,12 @@ const WIDE: &[u8] = b"wide";
 /// A script as it is read.
 #[derive(Debug, Drop)]
 pub struct Typed {
-    /// Its text, with words one blank apart, without comments behind calls, with words for constants of manual pages, and with
-    /// `serial` in place of `wide`.
+    /// Its text, with words one blank apart, without comments behind calls, with words for constants of manual pages, with
+    /// `polls` and a list in place of `poll` of several descriptors, and with `serial` in place of `wide`.
     pub text: Vec<u8>,
     /// Whether it has the line `wide`.
     pub wide: bool,
-    /// Whether it has constants of manual pages, or numbers behind `0x`.
+    /// Whether it has constants of manual pages, numbers behind `0x`, or `poll` of several descriptors.
     pub constants: bool,
 }
 
@@ -65,7 +66,7 @@ fn put_line(alloc: Global, out: &mut Vec<u8>, line: &[u8]) -> Result<(), AllocEr
     Ok(())
 }
 
-/// A text with words for the constants in its lines, but for comments.
+/// A text with words for the constants in its lines, and a list for each poll of several, but for comments.
 fn with_words(alloc: Global, text: &[u8]) -> Result<Vec<u8>, AllocError> {
     let mut out = Vec::new(alloc);
     for (place, line) in text.split(|byte| *byte == b'\n').enumerate() {
@@ -74,6 +75,8 @@ fn with_words(alloc: Global, text: &[u8]) -> Result<Vec<u8>, AllocError> {
         }
         if line.starts_with(b"#") {
             out.extend_from_slice(line)?;
+        } else if let Some(polls) = polls_line(alloc, line)? {
+            out.extend_from_slice(&polls)?;
         } else {
             put_line(alloc, &mut out, line)?;
         }

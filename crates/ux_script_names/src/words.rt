@@ -2,7 +2,7 @@
 
 ghost use Rattle.std.specs.Prelude.{◌≡◌, ◌++◌, ◌==◌, ℕ, List, map, OnOk, IfOk};
 ghost use Rattle.std.specs.List.{slice_split};
-ghost use Rattle.ux_script_names.specs.Words.{number_for, begins_item, item_number_for, item_for, word_for, line_for, each_between, Meaning};
+ghost use Rattle.ux_script_names.specs.Words.{number_for, begins_item, begins_number, item_number_for, item_for, asked_for, word_for, line_for, each_between, Meaning};
 
 use std::alloc::{AllocError, Global};
 
@@ -35,6 +35,16 @@ fn begins_item(word: &[u8]) -> bool
     ensures { result ≡ begins_item word.now }
 {
     matches!(word, [b'r' | b'c', b':', ..])
+}
+
+/// Whether a word is a number, a name, or a list of a poll's descriptors.
+fn begins_number(word: &[u8]) -> bool
+    ensures { result ≡ begins_number word.now }
+{
+    match word {
+        [byte, ..] => byte.is_ascii_digit() || *byte == b'$',
+        [] => false,
+    }
 }
 
 /// What parts of a text stand for.
@@ -83,6 +93,14 @@ struct Numbers<'a, M>(&'a M);
 #[derive(Clone, Copy)]
 struct Items<'a, M>(&'a M);
 
+/// A number, and what is asked for of it.
+#[derive(Clone, Copy)]
+struct Asked<'a, M>(&'a M);
+
+/// The descriptors of a poll.
+#[derive(Clone, Copy)]
+struct Polled<'a, M>(&'a M);
+
 /// The words of a line.
 #[derive(Clone, Copy)]
 struct Words<'a, M>(&'a M);
@@ -129,6 +147,22 @@ impl<M: Meanings> Standing for Items<'_, M> {
     }
 }
 
+impl<M: Meanings> Standing for Asked<'_, M> {
+    ghost stands = { λ asked. number_for (M.meaning asked.0.now) };
+
+    fn put(&self, alloc: Global, out: &mut Vec<u8>, part: &[u8]) -> Result<(), WordFault> {
+        put_number(alloc, out, self.0, part)
+    }
+}
+
+impl<M: Meanings> Standing for Polled<'_, M> {
+    ghost stands = { λ polled. asked_for (M.meaning polled.0.now) };
+
+    fn put(&self, alloc: Global, out: &mut Vec<u8>, part: &[u8]) -> Result<(), WordFault> {
+        put_each(alloc, out, &Asked(self.0), b':', part)
+    }
+}
+
 impl<M: Meanings> Standing for Words<'_, M> {
     ghost stands = { λ words. word_for (M.meaning words.0.now) };
 
@@ -136,12 +170,16 @@ impl<M: Meanings> Standing for Words<'_, M> {
         if begins_item(part) {
             return put_each(alloc, out, &Items(self.0), b'+', part);
         }
-        put_number(alloc, out, self.0, part)
+        if begins_number(part) {
+            return put_each(alloc, out, &Polled(self.0), b',', part);
+        }
+        out.extend_from_slice(part)?;
+        Ok(())
     }
 }
 
-/// The line that one with names in it stands for: each `$NAME` that is a word, or a number in the items of a control buffer, is
-/// the number that the name means.
+/// The line that one with names in it stands for: each `$NAME` that is a word, or a number in the items of a control buffer or in
+/// the list of a poll, is the number that the name means.
 ///
 /// # Errors
 ///

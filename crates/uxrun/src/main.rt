@@ -187,13 +187,25 @@ fn failed(rt: &impl Eprint, fault: &CommandFault) -> ExitCode {
     ExitCode::FAILURE
 }
 
+/// Whether what is printed goes to a pipe that nobody reads any more, as behind `| head`.
+fn is_unread(rt: &impl Print) -> bool {
+    match print!(rt; "\n") {
+        Err(error) => error.kind() == io::ErrorKind::BrokenPipe,
+        Ok(()) => false,
+    }
+}
+
 /// Prints why no whole trace was printed, and behind that the place in the script and what is expected there, if any.
-fn explained<R: Eprint + AllocGlobal>(
+/// Nothing where nobody reads the trace.
+fn explained<R: Print + Eprint + AllocGlobal>(
     rt: &R,
     name: &str,
     source: &Source,
     fault: &CommandFault,
 ) -> ExitCode {
+    if matches!(fault, CommandFault::Script(ScriptFault::Writing)) && is_unread(rt) {
+        return ExitCode::FAILURE;
+    }
     let code = failed(rt, fault);
     if let Ok(Some(reason)) = source.reason_of(rt.alloc(), name, fault) {
         let _ = eprintln!(rt; "{reason}");

@@ -19,7 +19,7 @@ use ux_orders::{
 use ux_page::Page;
 use ux_script::{differences, line_numbers, put_all};
 use ux_syntax::{Expectation, Script, ScriptFault, Waiting};
-use ux_types::{Entry, Pid};
+use ux_types::{Entry, Pid, Reply};
 
 /// Makes kernels of a script's processes over its file objects as they are at first.
 struct Machine<'a, R> {
@@ -82,9 +82,27 @@ pub fn run_in_order<R: RandomSource + AllocGlobal>(
             Ok(Made::Cut(entries, CommandFault::Script(deadlock)))
         }
         Ran::BrokenOff(entries) => {
-            let made = entries.iter().filter(|entry| entry.pid.0 != 0).count();
-            Ok(Made::Cut(entries, CommandFault::Order(made.saturating_add(1))))
+            let fault = fault_behind(script, order, entries.as_slice());
+            Ok(Made::Cut(entries, fault))
         }
+    }
+}
+
+/// Why an order is broken off behind these calls.
+fn fault_behind(script: &Script, order: &Order, entries: &[Entry]) -> CommandFault {
+    let made = entries.iter().filter(|entry| entry.pid.0 != 0).count();
+    let place = made.saturating_add(1);
+    let children = entries
+        .iter()
+        .filter(|entry| matches!(entry.reply, Reply::Child(_)))
+        .count();
+    let processes = script.procs.len().saturating_add(children);
+    let Order::Listed(pids) = order else {
+        return CommandFault::Order(place);
+    };
+    match pids.get(made) {
+        Some(pid) if pid.0 == 0 || pid.0 as usize > processes => CommandFault::Nobody(place, *pid),
+        _ => CommandFault::Order(place),
     }
 }
 
@@ -153,7 +171,8 @@ pub fn print_orders<R: Files + Print + Clock + Eprint + RandomSource + AllocGlob
     }
 }
 
-/// Prints the outcomes in their order: in how many of them an answer isn't the expected one.
+/// Prints the outcomes in their order: in how many of them an answer isn't the expected one. Each answer that isn't is told
+/// once, behind the first outcome that has it.
 fn print_outcomes<R: Print + AllocGlobal>(
     rt: &R,
     args: &Args<'_>,
@@ -162,7 +181,8 @@ fn print_outcomes<R: Print + AllocGlobal>(
     outcomes: &[Ran],
 ) -> Result<usize, CommandFault> {
     let mut last: Option<&Ran> = None;
-    let mut told: Option<&Ran> = None;
+    let mut before: Option<&Ran> = None;
+    let mut told = Vec::new(rt.alloc());
     let mut unexpected: usize = 0;
     for _ in 0..outcomes.len() {
         let Some(next) = next_behind(outcomes, last) else {
@@ -172,10 +192,10 @@ fn print_outcomes<R: Print + AllocGlobal>(
         if !is_first(outcomes, next) {
             continue;
         }
-        print_outcome(rt, args, script, next, told)?;
-        told = Some(next);
+        print_outcome(rt, args, script, next, before)?;
+        before = Some(next);
         if let Some(expected) = expected {
-            if !is_expected(rt, script, expected, outcomes, next)? {
+            if !is_expected(rt, script, expected, outcomes, next, &mut told)? {
                 unexpected = unexpected.saturating_add(1);
             }
         }
@@ -200,16 +220,16 @@ fn is_first(outcomes: &[Ran], ran: &Ran) -> bool {
 }
 
 /// Whether all answers of an outcome are those that are expected, in each way in which its deadlock is reached. Prints
-/// which aren't: those of its first run, and behind them those of others that were not told yet, each with its order.
+/// which aren't and were not told yet, each with the order in which it is answered.
 fn is_expected<R: Print + AllocGlobal>(
     rt: &R,
     script: &Script,
     expected: &[Expectation],
     outcomes: &[Ran],
     first: &Ran,
+    told: &mut Vec<u8>,
 ) -> Result<bool, CommandFault> {
-    let mut told = differing(rt, script, expected, first)?;
-    put_all(&mut io::writer(rt), &told)?;
+    let mut are = tell_further(rt, script, expected, first, told)?;
     let mut last = first;
     for _ in 0..outcomes.len() {
         let Some(next) = next_behind(outcomes, Some(last)) else {
@@ -217,11 +237,10 @@ fn is_expected<R: Print + AllocGlobal>(
         };
         last = next;
         if wait_alike(first, next) {
-            let further = differing(rt, script, expected, next)?;
-            tell_further(rt, &mut told, &further, next)?;
+            are = tell_further(rt, script, expected, next, told)? && are;
         }
     }
-    Ok(told.is_empty())
+    Ok(are)
 }
 
 /// The lines that say which answers of a run aren't the expected ones.
@@ -235,13 +254,16 @@ fn differing<R: Print + AllocGlobal>(
     Ok(differences(rt.alloc(), expected, &lines, ran.entries())?)
 }
 
-/// Prints those of these lines that weren't told, each with the run's order, and notes them.
+/// Whether all answers of a run are those that are expected. Prints those that aren't and weren't told, each with the run's
+/// order, and notes them.
 fn tell_further<R: Print + AllocGlobal>(
     rt: &R,
-    told: &mut Vec<u8>,
-    further: &[u8],
+    script: &Script,
+    expected: &[Expectation],
     ran: &Ran,
-) -> Result<(), CommandFault> {
+    told: &mut Vec<u8>,
+) -> Result<bool, CommandFault> {
+    let further = differing(rt, script, expected, ran)?;
     for line in further.split(|byte| *byte == b'\n') {
         if line.is_empty() || told.split(|byte| *byte == b'\n').any(|one| one == line) {
             continue;
@@ -252,7 +274,7 @@ fn tell_further<R: Print + AllocGlobal>(
         told.extend_from_slice(line)?;
         told.push(b'\n')?;
     }
-    Ok(())
+    Ok(further.is_empty())
 }
 
 /// The first outcome behind this one, or of all.
