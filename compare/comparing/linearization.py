@@ -24,7 +24,9 @@ class Event:
 
 
 def may_wait(run: Run, call: CallLine) -> bool:
-    """Whether the call waits where it can't be done yet (O_NONBLOCK, MSG_DONTWAIT)."""
+    """Whether the call waits where it can't be done yet (O_NONBLOCK, MSG_DONTWAIT, the timeout of a poll)."""
+    if call.words[0] == "polls":
+        return call.words[2] == "wait"
     if call.words[0] not in WAITING_CALLS:
         return False
     found = run.kernel.processes[call.pid - 1].table.get(int(call.words[1]))

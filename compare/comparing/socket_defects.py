@@ -294,3 +294,46 @@ def _() -> Patches:
 @defect("poll", "a pipe without readers has no ERR")
 def _() -> Patches:
     return [instead(readiness, "pipe_conditions", lambda real: lambda *given: real(*given) - {"ERR"})]
+
+
+# ---- poll of several descriptors
+
+def told_instead(tell: Callable[[set[str], set[str]], set[str]]) -> Patches:
+    """Patches by which a poll of several tells this of a descriptor, by what is asked of it and what is so."""
+    return [instead(readiness, "reported", lambda real: tell)]
+
+
+@defect("polls", "HUP and ERR, which nobody asks for, aren't told")
+def _() -> Patches:
+    return told_instead(lambda asked, found: found & (asked | {"NVAL"}))
+
+
+@defect("polls", "a number that isn't open has no NVAL")
+def _() -> Patches:
+    return told_instead(lambda asked, found: found & (asked | {"HUP", "ERR"}))
+
+
+@defect("polls", "what isn't asked for is told")
+def _() -> Patches:
+    return told_instead(lambda asked, found: found)
+
+
+@defect("polls", "RDHUP is told where IN is asked for")
+def _() -> Patches:
+    return told_instead(lambda asked, found: found & (asked | readiness.ALWAYS | ({"RDHUP"} if "IN" in asked else set())))
+
+
+@defect("polls", "one that waits answers though there is nothing to tell")
+def _() -> Patches:
+    real = trace.CALLS["polls"]
+    return [mock.patch.dict(trace.CALLS, {"polls": lambda kernel, process, words: real(kernel, process, [*words[:2], "now"])})]
+
+
+@defect("polls", "64 descriptors are too many")
+def _() -> Patches:
+    return [mock.patch.object(readiness, "POLL_LIMIT", 63)]
+
+
+@defect("polls", "what is told stands in the order of the numbers")
+def _() -> Patches:
+    return [instead(readiness, "asked_in", lambda real: lambda word: sorted(real(word), key=lambda one: one[0]))]

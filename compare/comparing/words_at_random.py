@@ -89,6 +89,15 @@ def number(random: Random, process: Process) -> int:
     return random.choice([0, 1, 2, 3, process.limit - 1, process.limit, process.limit + 1, 4095, 4096, 4294967295])
 
 
+def polled(random: Random, process: Process) -> str:
+    """FDS of a poll: one to four descriptors, seldom none, as many as may be, or one more; each mostly asked for something."""
+    count = random.choice([1, 2, 2, 2, 3, 3, 4])
+    if random.random() < 0.08:
+        count = random.choice([0, 64, 65])
+    events = ["ioh", "ioh", "ioh", "i", "i", "i", "o", "o", "io", "ih", "oh", "h", "-"]
+    return ",".join(f"{number(random, process)}:{random.choice(events)}" for _ in range(count)) or "-"
+
+
 def rights(random: Random, process: Process) -> list[int]:
     """Descriptors of one message: few, or as many as may be, or one more."""
     count = random.choice([1, 1, 1, 1, 2, 2, 3, 5])

@@ -1,11 +1,11 @@
-"""What docs/calls.md says of room, written once more: where Linux's own count says the same, a rule isn't asked, and Linux judges this
-layer's half. A fault of that half so doesn't move where it is judged."""
+"""What docs/calls.md says of room, and of how many a poll takes, written once more: where Linux's own count says the same, a rule isn't
+asked, and Linux judges this layer's half. A fault of that half so doesn't move where it is judged."""
 from __future__ import annotations
 
 from .state import FileObject, Socket
 
 QUEUE_BYTES, RECORD_BYTES, PIPE_BYTES, PIPE_WHOLE = 65536, 65536, 65536, 4096
-RECORDS, BACKLOG = 16, 128
+RECORDS, BACKLOG, POLLED = 16, 128, 64
 
 
 def waiting(target: Socket) -> int:
@@ -44,3 +44,8 @@ def unreceived(socket: Socket) -> int:
 def is_full(listener: Socket) -> bool:
     """Whether as many connections wait as the backlog says."""
     return len(listener.pending) >= max(1, min(BACKLOG, listener.backlog))
+
+
+def polls_too_many(count: int) -> bool:
+    """Whether these are more descriptors than one poll takes."""
+    return count > POLLED

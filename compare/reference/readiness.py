@@ -1,4 +1,4 @@
-"""poll of one descriptor (poll(2); unix_poll and unix_dgram_poll, pipe_poll of Linux)."""
+"""poll of one descriptor, and of several (poll(2); do_sys_poll, unix_poll and unix_dgram_poll, pipe_poll of Linux)."""
 from __future__ import annotations
 
 from . import agreed
@@ -6,9 +6,12 @@ from .files import COUNTER_LIMIT, PIPE_LIMIT, PIPE_WHOLE
 from .kernel import Kernel
 from .rooms import has_memory, has_room, is_queue_full, rule_of
 from .rules import Rule
-from .state import Description, FileObject, Process, Socket
+from .state import Description, FileObject, Process, Refusal, Socket
 
+POLL_LIMIT = 64
 CONDITIONS = ("IN", "OUT", "RDHUP", "HUP", "ERR", "NVAL")
+ASKED = {"i": "IN", "o": "OUT", "h": "RDHUP"}
+ALWAYS = frozenset(("HUP", "ERR", "NVAL"))
 
 
 def can_send(kernel: Kernel, socket: Socket) -> bool:
@@ -113,17 +116,53 @@ def file_conditions(kernel: Kernel, description: Description, target: FileObject
     return found
 
 
-def call_poll(kernel: Kernel, process: Process, words: list[str]) -> str:
-    """poll(2) of one descriptor, without waiting."""
-    number = int(words[1])
+def conditions_of(kernel: Kernel, process: Process, number: int) -> set[str]:
+    """All that is so at a number, NVAL alone where it isn't open."""
     if number not in process.table:
-        return "poll NVAL"
+        return {"NVAL"}
     description = process.table[number].description
     target = description.target
     if isinstance(target, FileObject):
-        found = file_conditions(kernel, description, target)
-    elif target.is_datagram:
-        found = datagram_conditions(kernel, target)
-    else:
-        found = tied_conditions(kernel, target) if target.peer is not None else untied_conditions(kernel, target)
-    return "poll " + ("|".join(name for name in CONDITIONS if name in found) or "-")
+        return file_conditions(kernel, description, target)
+    if target.is_datagram:
+        return datagram_conditions(kernel, target)
+    return tied_conditions(kernel, target) if target.peer is not None else untied_conditions(kernel, target)
+
+
+def told(found: set[str]) -> str:
+    """A set of conditions as a trace has it."""
+    return "|".join(name for name in CONDITIONS if name in found) or "-"
+
+
+def call_poll(kernel: Kernel, process: Process, words: list[str]) -> str:
+    """poll(2) of one descriptor, without waiting."""
+    return f"poll {told(conditions_of(kernel, process, int(words[1])))}"
+
+
+# ---- several descriptors
+
+def asked_in(word: str) -> list[tuple[int, set[str]]]:
+    """The numbers of FDS, each with what is asked of it."""
+    pairs = [one.split(":") for one in word.split(",")] if word != "-" else []
+    return [(int(number), {ASKED[letter] for letter in letters if letter in ASKED}) for number, letters in pairs]
+
+
+def asks_too_many(kernel: Kernel, process: Process, count: int) -> bool:
+    """Whether these are more than one poll takes; Linux takes as many as the process may have open (RLIMIT_NOFILE)."""
+    return kernel.either(Rule.POLL_OF_MANY, agreed.polls_too_many(count), lambda: count > POLL_LIMIT, lambda: count > process.limit)
+
+
+def reported(asked: set[str], found: set[str]) -> set[str]:
+    """What a poll tells: IN, OUT and RDHUP where they are asked for, the others in any case."""
+    return found & (asked | ALWAYS)
+
+
+def call_polls(kernel: Kernel, process: Process, words: list[str]) -> str:
+    """poll(2) of several descriptors: one that waits would wait where it has nothing to tell."""
+    asked = asked_in(words[1])
+    if asks_too_many(kernel, process, len(asked)):
+        raise Refusal("EINVAL")
+    found = [reported(events, conditions_of(kernel, process, number)) for number, events in asked]
+    if words[2] == "wait" and not any(found):
+        raise Refusal("EAGAIN")
+    return " ".join(["polled", *map(told, found)])

@@ -33,6 +33,7 @@ class Rule(Enum):
     POLL_OF_TWO_HALF_CLOSES = "poll-of-two-half-closes"
     POLL_OF_A_FILE = "poll-of-a-file"
     POLL_OF_A_DATAGRAM_SOCKET = "poll-of-a-datagram-socket"
+    POLL_OF_MANY = "poll-of-many"
     DESTINATION_REQUIRED = "destination-required"
     RECEIVE_OF_AN_UNCONNECTED_STREAM = "receive-of-an-unconnected-stream"
     DATAGRAM_SOCKET_SHUT_FOR_READING = "datagram-socket-shut-for-reading"

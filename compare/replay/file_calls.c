@@ -10,6 +10,9 @@
 #include <sys/stat.h>
 #include <unistd.h>
 
+/* As many descriptors as a line has room for. */
+enum { MOST_POLLED = LINE / 4 };
+
 unsigned char data[MOST_BYTES + CHUNK];
 int passed = -1;
 
@@ -73,7 +76,7 @@ CALL(dupfd) {
     say_count("fd", fcntl(descriptor_in(word[2]), F_DUPFD, descriptor_in(word[3])));
 }
 
-/* The names of the flags that are set, or a dash. */
+/* The names of the flags that are set, or a dash, behind a word and a blank. */
 static void say_names(const char *word, int set, const struct named *names, size_t count) {
     say("%s ", word);
     if (set == 0) say("-");
@@ -118,11 +121,49 @@ CALL(unlink) {
     if (file_in(word[2], file)) say_done(unlink(file));
 }
 
-CALL(poll) {
+static void say_conditions(const char *word, int set) {
     static const struct named conditions[] = {
         {POLLIN, "IN"}, {POLLOUT, "OUT"}, {POLLRDHUP, "RDHUP"}, {POLLHUP, "HUP"}, {POLLERR, "ERR"}, {POLLNVAL, "NVAL"},
     };
+    say_names(word, set, conditions, sizeof conditions / sizeof *conditions);
+}
+
+CALL(poll) {
     struct pollfd asked = {.fd = descriptor_in(word[2]), .events = POLLIN | POLLOUT | POLLRDHUP};
     if (poll(&asked, 1, 0) < 0) say_error();
-    else say_names("poll", asked.revents, conditions, sizeof conditions / sizeof *conditions);
+    else say_conditions("poll", asked.revents);
+}
+
+/* What the letters of one descriptor ask for. */
+static short events_in(const char *letters) {
+    return (short)((strchr(letters, 'i') ? POLLIN : 0) | (strchr(letters, 'o') ? POLLOUT : 0) | (strchr(letters, 'h') ? POLLRDHUP : 0));
+}
+
+/* The descriptors of a list `FD:EVENTS,FD:EVENTS`, or `-` for none. It answers how many there are. */
+static nfds_t polled_in(char *list, struct pollfd *asked) {
+    nfds_t count = 0;
+    char *rest = strcmp(list, "-") ? list : NULL, *one;
+    while ((one = strsep(&rest, ",")) != NULL) {
+        const char *letters = strchr(one, ':');
+        if (letters == NULL || count == MOST_POLLED) give_up("a bad line");
+        asked[count++] = (struct pollfd){.fd = descriptor_in(one), .events = events_in(letters + 1)};
+    }
+    return count;
+}
+
+/* One that waits does so where the processes go on by themselves; elsewhere that it would wait is EAGAIN, as of other calls. */
+CALL(polls) {
+    static struct pollfd asked[MOST_POLLED];
+    nfds_t count = polled_in(word[2], asked);
+    int waits = strcmp(word[3], "wait") == 0, ready = poll(asked, count, waits && shared->waits ? -1 : 0);
+    if (ready == 0 && waits) {
+        errno = EAGAIN;
+        ready = -1;
+    }
+    if (ready < 0) {
+        say_error();
+        return;
+    }
+    say("polled");
+    for (nfds_t i = 0; i < count; i++) say_conditions("", asked[i].revents);
 }

@@ -100,9 +100,11 @@ CALL(getopt) {
     else say("opt %d", option == SO_ERROR && value == ECONNRESET ? LAYERS_ECONNRESET : value);
 }
 
+/* A layer may name a socket at once where SO_PASSCRED is set, as Linux does where it sends. */
 CALL(setopt) {
-    int option = option_in(word[3]), value = (int)number_in(word[4]);
-    say_done(setsockopt(descriptor_in(word[2]), SOL_SOCKET, option, &value, sizeof value));
+    int option = option_in(word[3]), number = descriptor_in(word[2]), value = (int)number_in(word[4]);
+    say_done(setsockopt(number, SOL_SOCKET, option, &value, sizeof value));
+    learn_name(number);
 }
 
 static void say_name_of(char **word) {

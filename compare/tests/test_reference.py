@@ -51,6 +51,12 @@ SWITCHES = [
     (Rule.MEMORY_OF_WHAT_WAS_SENT, ["pair seq -", "send 0 - - - -"], "outq 0", "n 0", "n 768"),
     (Rule.OUTQ_OF_DATAGRAMS, ["pair dgram -"], "outq 0", "err EOPNOTSUPP", "n 0"),
     (Rule.OUTQ_OF_DATAGRAMS, ["pair dgram -", "send 0 - 616263 - -"], "outq 0", "err EOPNOTSUPP", "n 768"),
+    (Rule.POLL_OF_AN_IDLE_SOCKET, ["socket stream -"], "polls 0:io,0:- wait", "polled HUP HUP", "polled OUT|HUP HUP"),
+    (Rule.POLL_OF_TWO_HALF_CLOSES, ["pair stream -", "shut 0 w", "shut 1 w"], "polls 0:o,1:- wait", "polled OUT -", "polled OUT|HUP HUP"),
+    (Rule.POLL_OF_TWO_HALF_CLOSES, ["pair stream -", "shut 0 w", "shut 1 w"], "polls 1:- wait", "err EAGAIN", "polled HUP"),
+    (Rule.POLL_OF_A_DATAGRAM_SOCKET, ["pair dgram -", "shut 0 rw"], "polls 0:ih,0:h,0:- now",
+     "polled IN - -", "polled IN|RDHUP|HUP RDHUP|HUP HUP"),
+    (Rule.POLL_OF_MANY, ["pipe -"], "polls " + ",".join(["0:i"] * 17) + " now", "polled" + " -" * 17, "err EINVAL"),
 ]
 PADDED = "x:" + "1400000000000000" + "01000000" + "01000000" + "00000000" + "00000000"  # a right, and padding behind it (cmsg(3))
 TOO_LONG = "x:" + "ff00000000000000" + "01000000" + "01000000" + "00000000"
@@ -81,6 +87,8 @@ ALIKE = [
     (Rule.MEMORY_OF_WHAT_WAS_SENT, ["pair stream -", "send 0 - 616263 - -", "recv 1 9 0 -"], "outq 0", "n 0"),
     (Rule.MEMORY_OF_WHAT_WAS_SENT, ["pair stream -", "send 0 - 616263 - -", "close 1"], "outq 0", "n 0"),
     (Rule.MEMORY_OF_WHAT_WAS_SENT, ["memfd -"], "outq 0", "err ENOTTY"),
+    (Rule.POLL_OF_MANY, ["pipe -"], "polls " + ",".join(["1:o"] * 16) + " wait", "polled" + " OUT" * 16),
+    (Rule.POLL_OF_MANY, ["pipe -"], "polls " + ",".join(["1:o"] * 65) + " wait", "err EINVAL"),
 ]
 # What both refuse alike, before all else (pipe2(2), eventfd(2), memfd_create(2)).
 REFUSED = ["pipe a", "pipe anx", "eventfd 0 a", "eventfd 5 ax", "eventfd 5 anxs", "memfd n", "memfd a", "memfd anx"]
@@ -148,6 +156,39 @@ class Switches(unittest.TestCase):
             self.assertEqual(answers(["eventfd 1 -", "inq 0"], rules)[-1], "err ENOTTY")
             self.assertEqual(answers(["socket stream -", "bind 0 a:x", "listen 0 1", "inq 0", "outq 0"], rules)[-2:], ["err EINVAL", "n 0"])
             self.assertEqual(answers(["inq 0", "outq 0"], rules), ["err EBADF", "err EBADF"])
+
+    def test_a_poll_of_several_tells_what_is_asked_for_and_what_hangs_up_or_fails(self):
+        """poll(2): revents has what events asks for, and POLLHUP, POLLERR and POLLNVAL in any case."""
+        lost = ["pair stream -", "send 0 - 6162 - -", "close 0"]
+        reset = ["pair stream -", "send 1 - 6162 - -", "close 0"]
+        rows = [(["pair stream -"], "0:ioh,1:i,0:- now", "OUT - -"), (["pair stream -"], "0:i,1:i now", "- -"),
+                (["pair stream -"], "1:i,0:o wait", "- OUT"),
+                (["pair stream -", "send 0 - 61 - -"], "0:i,1:i,1:o,1:io wait", "- IN OUT IN|OUT"),
+                (["pair stream -", "shut 0 w"], "1:h,1:i,1:-,1:ioh,0:ioh now", "RDHUP IN - IN|OUT|RDHUP OUT"),
+                (lost, "1:-,1:i,1:ioh,0:- wait", "HUP IN|HUP IN|OUT|RDHUP|HUP NVAL"), (reset, "1:- wait", "HUP|ERR"),
+                (["pipe -", "close 1"], "0:-,0:ioh wait", "HUP HUP"), (["pipe -", "close 0"], "1:-,1:o,1:i wait", "ERR OUT|ERR ERR"),
+                (["eventfd 3 -"], "0:i,0:o,0:h now", "IN OUT -"), ([], "0:ioh,4294967295:-,16:i wait", "NVAL NVAL NVAL")]
+        for rules in (NO_RULES, ALL_RULES):
+            for before, given, told in rows:
+                with self.subTest(f"{before} {given}"):
+                    self.assertEqual(answers([*before, f"polls {given}"], rules)[-1], f"polled {told}")
+
+    def test_a_poll_of_several_that_finds_nothing_waits_or_tells_so(self):
+        for rules in (NO_RULES, ALL_RULES):
+            self.assertEqual(answers(["pair stream -", "polls 0:i,1:h,0:- wait", "polls 0:i,1:h,0:- now"], rules)[1:],
+                             ["err EAGAIN", "polled - - -"])
+            self.assertEqual(answers(["polls - wait", "polls - now"], rules), ["err EAGAIN", "polled"])
+
+    def test_64_descriptors_are_the_most_that_are_polled(self):
+        calls = ["memfd -", *[f"polls {','.join(['0:o'] * count)} now" for count in (64, 65)]]
+        script = parse("proc 1000 1000 0 64\n" + "".join(f"1 {call}\n" for call in calls))
+        for rules in (NO_RULES, ALL_RULES):
+            self.assertEqual([line.reply for line in trace(script, rules, Machine())][1:3], ["polled" + " OUT" * 64, "err EINVAL"])
+
+    def test_a_poll_of_several_changes_nothing(self):
+        calls = ["pair stream -", "send 0 - 6162 - -", "polls 0:ioh,1:ioh wait", "recv 1 9 0 -", "polls 0:i,1:i wait", "getfl 0"]
+        for rules in (NO_RULES, ALL_RULES):
+            self.assertEqual(answers(calls, rules)[2:], ["polled OUT IN|OUT", "got 2 6162 - - -", "err EAGAIN", "flags -"])
 
     def test_a_pipes_pages_are_read_as_they_were_written(self):
         calls = ["pipe -", f"write 1 {'61' * 5000}", f"write 1 {'62' * 3000}", "read 0 4500", "read 0 100000"]

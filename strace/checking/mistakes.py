@@ -18,7 +18,7 @@ if TYPE_CHECKING:
     from saying.world import World
 
 PLACES = 20
-QUERIES = ("poll", "sockname", "peername", "getopt", "fork", "exit")
+QUERIES = ("poll", "polls", "sockname", "peername", "getopt", "fork", "exit")
 MOST_MOMENTS = 3
 
 

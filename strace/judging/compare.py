@@ -8,6 +8,7 @@ from sys import intern
 from typing import TYPE_CHECKING, Any
 
 from saying.script import numbered
+from .polls import parted, rule_of_one, with_unasked
 from .rules import Case, rule_of
 
 if TYPE_CHECKING:
@@ -17,11 +18,8 @@ if TYPE_CHECKING:
     from saying.script import Script
     from saying.world import World
 
-READABLE = {"IN", "HUP", "ERR", "RDHUP"}
-WRITABLE = {"OUT", "ERR"}
 PERSON = re.compile(r"((?:^|\+| )c:|^cred )(\d+)(?=[, ])")
 CONTENTS = {"bytes": 1, "got": 2}
-ORDER = ("IN", "OUT", "RDHUP", "HUP", "ERR", "NVAL")
 
 
 class Outcome(Enum):
@@ -77,6 +75,8 @@ class Judge:
         if step.expect is None:
             return Verdict(step, call, ours, "", Outcome.NOT_COMPARED)
         kernel = numbered(step.expect, self.seats)
+        if step.polled:
+            return self.verdict_of_poll(step, call, ours, kernel)
         if step.asked is not None:
             kernel = with_unasked(kernel, ours, step.asked)
         if ours != kernel:
@@ -88,23 +88,16 @@ class Judge:
             return Verdict(step, call, ours, kernel, Outcome.DIFFERS)
         return Verdict(step, call, ours, kernel, Outcome.RULE, rule.name, rule.parts)
 
-
-def with_unasked(kernel: str, ours: str, asked: frozenset[str]):
-    """The kernel's conditions of a poll, and of ours those that the program didn't ask for; a select's as a poll's."""
-    if not ours.startswith("poll "):
-        return kernel
-    mine, theirs = set(ours[5:].split("|")) - {"-"}, set(kernel[5:].split("|")) - {"-"}
-    if "SELECT" not in asked:
-        return told(theirs | (mine - asked))
-    result = set(mine)
-    for bit, group in (("IN", READABLE), ("OUT", WRITABLE)):
-        if bit in asked and bool(mine & group) != (bit in theirs):
-            result = result | {bit} if bit in theirs else result - group
-    return told(result)
-
-
-def told(conditions: set[str]):
-    return "poll " + ("|".join(bit for bit in ORDER if bit in conditions) or "-")
+    def verdict_of_poll(self, step: Step, call: str, ours: str, kernel: str):
+        """A poll of several: each descriptor of which something else is told falls under a rule of a poll of one, or it differs."""
+        others = parted(step, ours, kernel)
+        if others == []:
+            return Verdict(step, call, ours, ours, Outcome.AGREES)
+        rules = [rule_of_one(self.rules, *other) for other in others or []]
+        named = [rule for rule in rules if rule is not None]
+        if not named or len(named) < len(rules):
+            return Verdict(step, call, ours, kernel, Outcome.DIFFERS)
+        return Verdict(step, call, ours, kernel, Outcome.RULE, named[0].name, any(rule.parts for rule in named))
 
 
 def filled(kernel: str, ours: str, by_length: bool):

@@ -236,10 +236,19 @@ class Process:
         return f"{self.program} (pid {self.pid})"
 
 
+@dataclass(slots=True, frozen=True)
+class Polled:
+    """A descriptor of a poll of several: its number, what is asked for, and its description's state and marks then."""
+    number: int
+    asked: frozenset
+    state: str
+    marks: frozenset = frozenset()
+
+
 @dataclass(slots=True, eq=False)
 class Step:
     """A line of the script: whose, its words, the kernel's reply (None where there is none to compare), and its place; the marks of
-    its socket and of the other one that it concerns, with that one's name (marks.py)."""
+    its socket and of the other one that it concerns, with that one's name (marks.py); and of a poll of several its descriptors."""
     seat: Any
     words: str
     expect: str | None = None
@@ -251,6 +260,7 @@ class Step:
     marks: frozenset = frozenset()
     other: frozenset = frozenset()
     other_name: str | None = None
+    polled: tuple[Polled, ...] = ()
 
     def __post_init__(self) -> None:
         # A long log says the same words over and over: each text is kept once.

@@ -5,10 +5,11 @@ import tempfile
 import unittest
 
 from here import TOP
-from judging.compare import filled, with_unasked
+from judging.compare import filled
 from judging.holdings import calls_up_to
 from judging.order import exchanges
 from judging.overlaps import Overlaps, in_flight
+from judging.polls import with_unasked
 from judging.rules import RULES, Case, read_rules, rule_of
 from reading.calls import Call
 from saying.handover import placing
