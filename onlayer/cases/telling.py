@@ -31,7 +31,6 @@ TOLD = [                                       # a name, options, the program, e
     ("holders at the end", ["--holders", "end"], PASSES_A_FILE,
      [r"stream socket 1, connected to stream socket 0: held by \S+ \(pid \d+\) 4\n  unread: 1 byte, which passes /etc/hostname\n",
       r"/etc/hostname: held by \S+ \(pid \d+\) 5, a message to stream socket 1\n"]),
-    ("holders after a line", ["--holders", "line:7"], PASSES_A_FILE, [r"stream socket 0, connected to stream socket 1: held by \S+ \(pid \d+\) 3\n"]),
     ("an audit", ["--audit", "end"], PASSES_A_FILE, [r"\S+ \(pid (\d+)\) 4: made by \S+ \(pid \1\) as 4\n"]),
     ("descriptors in flight", [], PASSES_A_FILE, [r"; 1 descriptors in flight that nobody received\n"]),
     ("an unused listener", [], LEAVES_A_LISTENER, [r"onlayer: true \(pid \d+\) found a listening socket open as 3, unused, and never used it\n"]),
@@ -41,6 +40,10 @@ TOLD = [                                       # a name, options, the program, e
     ("--nofile", ["--nofile", "3"], MANY, [r"^Too many open files\n"]),
     ("--fail", ["--fail", "socketpair:1:ENOMEM"], FAILS, [r"^Cannot allocate memory\n1\n", r", 1 failed as asked;"]),
 ]
+# A program, a call of the layer, and what is told of the moment behind that call's line: two sockets, and no open file yet.
+TOLD_AFTER = ("holders after a line", PASSES_A_FILE, "pair",
+              [r"^stream socket 0, connected to stream socket 1: held by (\S+ \(pid \d+\)) 3\n"
+               r"stream socket 1, connected to stream socket 0: held by \1 4\nonlayer: "])
 TOLD_AS_JSON = [                               # the fields of a value that has to be told
     (["--json", "--holders", "end"], PASSES_A_FILE, [{"kind": "summary", "in_flight": 1, "refused": 0}, {"kind": "description", "description": 1}]),
     (["--json", "--audit", "end"], PASSES_A_FILE, [{"kind": "held", "number": "4"}]),

@@ -101,10 +101,15 @@ static void show_lonely(Description &file, unsigned conditions) {
     file.shown_conditions = conditions;
 }
 
-static void close_other_end(Description &file, unsigned conditions) {
-    drain(file.hidden.get());
-    if (conditions & ERR) put_byte(file.shown.get());     // unread at the close: the kernel tells ECONNRESET
-    file.hidden.reset();
+// Of a connection that neither end can send on any more. The other end is kept, since a reset may be told later still.
+static void show_hung_up(Description &file, unsigned conditions) {
+    bool is_new = !(file.shown_conditions & HUP);
+    if (is_new) {
+        drain(file.hidden.get());
+        put_byte(file.shown.get());            // unread at a close: the kernel tells ECONNRESET then
+    }
+    if (conditions & ERR) file.hidden.reset();
+    else if (is_new) shutdown(file.hidden.get(), SHUT_RDWR);
     file.shown_conditions = conditions;
 }
 
@@ -123,7 +128,7 @@ void Placeholders::show(Description &file) {
     if (!file.hidden) return show_lonely(file, conditions);
     if (changed & IN) conditions & IN ? add_input(file) : take_input(file);
     else if (has_arrived && conditions & IN) add_input(file);    // edge-triggered epoll wants an event
-    if (file.kind != DATAGRAM && conditions & HUP) return close_other_end(file, conditions);
+    if (file.kind != DATAGRAM && conditions & HUP) return show_hung_up(file, conditions);
     if (conditions & RDHUP && changed & RDHUP) shutdown(file.hidden.get(), SHUT_WR);
     show_room(file, conditions & OUT);
     file.shown_conditions = conditions;

@@ -108,8 +108,10 @@ void report_now(World &world) {
     Line line(world.options.json, "now");
     line.say("onlayer: " + text(world.layer->calls()) + " calls of the layer so far; " + text(waiting) + " calls wait");
     tell(line.field("calls", world.layer->calls()).field("waiting", waiting).end() + who_waits(world));
+    static unsigned long asked = 0;
+    ++asked;                                               // two that are told at once don't share a copy, which the first removes
     for (const char *what : {"holders", "audit"}) {        // of a copy, since the script goes on
-        std::string copy = world.options.script + "." + what;
+        std::string copy = world.options.script + "." + what + "." + text(asked);
         std::ofstream(copy, std::ios::binary) << std::ifstream(world.options.script, std::ios::binary).rdbuf();
         start_telling(world, what, "end", copy, true);
     }

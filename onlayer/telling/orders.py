@@ -97,6 +97,11 @@ def tell(runs):
     print(f"{len(runs)} orders: " + (f"{differences} things differ" if differences else "nothing differs"))
 
 
+def tell_as_json(kind, found, **where):
+    values = [{"value": value, "seeds": some} for value, some in found]
+    print(json.dumps({"kind": "difference", "of": kind, "values": values} | where, sort_keys=True))
+
+
 def main():
     chosen = options()
     with tempfile.TemporaryDirectory(prefix="onlayer-orders-") as folder:
@@ -104,8 +109,12 @@ def main():
     if chosen.json:
         for run in runs:
             print(json.dumps({key: run[key] for key in ("seed", "status", "output", "errors")} | {"kind": "order"}, sort_keys=True))
+        for kind in ("status", "output", "errors"):
+            found = groups(runs, lambda run: run[kind])
+            if len(found) > 1:
+                tell_as_json(kind, found)
         for title, at, found in differing_replies(runs):
-            print(json.dumps({"kind": "difference", "process": title, "call": at, "replies": dict(found)}, sort_keys=True))
+            tell_as_json("reply", found, process=title, call=at)
     else:
         tell(runs)
     return max(run["status"] for run in runs)

@@ -14,6 +14,8 @@ for kind in (socket.SOCK_STREAM, socket.SOCK_SEQPACKET):
     a, b = pair(kind); b.send(b"unread"); a.send(b"x"); b.close(); print("gone with data", shown(a))
     if kind == socket.SOCK_STREAM: print(attempt(a.recv, 10), attempt(a.recv, 10), shown(a))
     a, b = pair(kind); a.send(b"unread"); b.close(); print("reset", shown(a), attempt(a.recv, 10), shown(a), attempt(a.recv, 10))
+    a, b = pair(kind); a.send(b"unread"); a.shutdown(socket.SHUT_RDWR); print("shut", shown(a)); b.close(); print("reset later", shown(a))
+    a, b = pair(kind); a.shutdown(socket.SHUT_RDWR); b.close(); print("shut and gone", shown(a))
     a, b = pair(kind); a.setblocking(False); n = 0
     while attempt(a.send, b"x" * 1000) == 1000: n += 1
     print("full", n > 4, shown(a), shown(b))
